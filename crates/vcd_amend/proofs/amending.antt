@@ -2,6 +2,7 @@
 pub mod LastChange
 pub mod UsedCodes
 pub mod InPlace
+pub mod MarkedTexts
 pub mod DueOrder
 pub mod StampedItems
 pub mod DueText

@@ -2,3 +2,4 @@
 pub mod Marks
 pub mod LinesLeft
 pub mod HeardInHistory
+pub mod EditLines

@@ -6,3 +6,4 @@ pub mod PlannedRun
 pub mod CarriedOut
 pub mod EndsOfRun
 pub mod RemarkedRun
+pub mod MarkedRun

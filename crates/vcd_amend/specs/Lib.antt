@@ -15,11 +15,13 @@ pub mod RetimedLaws
 pub mod RetimedCopy
 pub mod AmendedRun
 pub mod EditedText
+pub mod EditsInForce
 pub mod KnownSignals
 pub mod FileParts
 pub mod NewNames
 pub mod AmendRun
 pub mod AmendRunEnds
+pub mod MarkedRun
 pub mod TakenRemarks
 pub mod AmendOnBytes
 pub mod inside

@@ -4,6 +4,8 @@ ghost use Rattle.std.specs.Prelude.{◌≡◌, ◌≤◌, List, ℕ, true, false
 ghost use Rattle.std.specs.Prelude.{All};
 ghost use Rattle.std.specs.Io.KnownBytes.{Appends, IsAtEnd};
 ghost use Rattle.vcd_text.specs.CopyEnds.{CopyFails};
+ghost use Rattle.vcd_text.specs.Marks.{IsMarkedFile};
+ghost use Rattle.vcd_text.specs.MarkText.{piece_of_mark};
 ghost use Rattle.vcd_text.specs.declared.reading.TheConstants.{LONG_FILE_LIMIT};
 ghost use Rattle.vcd_amend.specs.AmendedCopy.{IsAmended};
 ghost use Rattle.vcd_amend.specs.AmendedMeaning.{AreApart};
@@ -27,7 +29,7 @@ use cut_amender::CutAmender;
 use file_amender::FileAmender;
 use std::alloc::Global;
 use vcd_core::{Sink, Source};
-use vcd_text::{CopyError, copy};
+use vcd_text::{CopyError, Mark, Marked, copy};
 
 /// Reads a capture file, and writes the amended file. The writer is flushed once, after the last
 /// byte. A file has at most `LONG_FILE_LIMIT` bytes and `limit` kept variables.
@@ -98,9 +100,42 @@ pub fn amend_after_cuts<R: Source, W: Sink>(
         (R.coming reader.new) (R.has_failed reader.new) (W.taken writer.old) (W.taken writer.new)
         (W.has_failed writer.new)) }
 {
+    amend_marked(alloc, reader, limit, cuts, amendment, None, writer)
+}
+
+/// The same on the file with a mark in it, if there is one: the copy has it after the declarations.
+pub fn amend_marked<R: Source, W: Sink>(
+    alloc: Global,
+    reader: &mut R,
+    limit: u32,
+    cuts: &[CutTicks],
+    amendment: &Amendment,
+    mark: Option<Mark<'_>>,
+    writer: &mut W,
+) -> Result<(), CopyError>
+    requires reader_ready { R.has_failed reader.old ≡ false }
+    requires writer_ready { W.has_failed writer.old ≡ false }
+    requires apart { AreApart (amendment_contents amendment.now).codes }
+    requires ordered { All (λ c. c.from ≤ c.to) cuts.now }
+    ensures amended { OnOk result (IfSome (R.coming reader.old) (λ file.
+        (length file ≤ LONG_FILE_LIMIT)
+        × (marked : List ℕ) × IsMarkedFile limit (piece_of_mark mark.entry) file marked
+        × (text : List ℕ) × IsAmendedAfterCuts limit (is_cut_by cuts.now)
+        (amendment_contents amendment.now) marked text
+        × Appends (W.taken writer.old) (W.taken writer.new) text)) }
+    ensures not_failed { OnOk result (W.has_failed writer.new ≡ false) }
+    ensures flushed { OnOk result (W.is_flushed writer.new ≡ true) }
+    ensures ended { OnOk result (IsAtEnd (R.coming reader.new)) }
+    ensures reader_not_failed { OnOk result (R.has_failed reader.new ≡ false) }
+    ensures taken { (text : List ℕ) × Appends (W.taken writer.old) (W.taken writer.new) text }
+    ensures fails { IfErr result (CopyFails limit LONG_FILE_LIMIT (R.coming reader.old)
+        (R.coming reader.new) (R.has_failed reader.new) (W.taken writer.old) (W.taken writer.new)
+        (W.has_failed writer.new)) }
+{
     if cuts.is_empty() {
-        return amend(alloc, reader, limit, amendment, writer);
+        let amender = FileAmender::new(alloc, amendment)?;
+        return copy(alloc, reader, limit, &mut Marked { amender, mark }, writer);
     }
-    let mut amender = CutAmender::new(alloc, cuts, amendment)?;
-    copy(alloc, reader, limit, &mut amender, writer)
+    let amender = CutAmender::new(alloc, cuts, amendment)?;
+    copy(alloc, reader, limit, &mut Marked { amender, mark }, writer)
 }

@@ -1,7 +1,7 @@
 //! The dry run: the lines of a script on a capture without changes, before the real run.
 
 ghost use Rattle.std.specs.Prelude.{◌≡◌, ◌≤◌, ◌<◌, ◌↔◌, ◌^◌, ℕ, nat_eq, false, [], length};
-ghost use Rattle.std.specs.Prelude.{slice_index_or, replicate, IfOk, IfErr, OnOk};
+ghost use Rattle.std.specs.Prelude.{slice_index_or, replicate, reverse, IfOk, IfErr, OnOk};
 ghost use Rattle.std.specs.List.{list_any};
 ghost use Rattle.vcd_core.specs.CaptureContents.{contents};
 ghost use Rattle.vcd_core.specs.Sound.{IsSound};
@@ -10,20 +10,23 @@ ghost use Rattle.vcd_journal.specs.Origins.{origins};
 ghost use Rattle.vcd_script.specs.Script.{script_lines};
 ghost use Rattle.vcd_script.specs.SessionLines.{machine_after_lines};
 ghost use Rattle.vcd_script.specs.HollowRun.{origins_asked, last_edits, last_capture};
-ghost use Rattle.vcd_amend.specs.inside.dry_running.OriginHistory.{notes_before_edits};
+ghost use Rattle.vcd_amend.specs.EditsInForce.{lines_in_force};
 ghost use Rattle.vcd_amend.specs.inside.dry_running.OriginHistory.{ticks_of_cuts};
 ghost use Rattle.vcd_amend.specs.inside.dry_running.HeardLines.{HearsLine, marked};
 ghost use Rattle.vcd_amend.specs.inside.dry_running.HeardLines.{notes_after_lines};
+ghost use Rattle.vcd_amend.specs.inside.dry_running.HeardLines.{noted_before_lines};
 ghost use Rattle.vcd_amend.specs.inside.dry_running.HeardLines.{origins_heard_in};
 
+mod edit_history;
 mod heard_signals;
+mod line_history;
 mod origin_history;
 
 use crate::cut_ticks::CutTicks;
+use crate::dry_running::edit_history::EditHistory;
 use crate::dry_running::heard_signals::{hear, none_heard};
-use crate::dry_running::origin_history::OriginHistory;
 use std::alloc::Global;
-use vcd_core::{Capture, NoMemory};
+use vcd_core::{Capture, NoMemory, Word};
 use vcd_journal::{DEPTH_LIMIT, Session};
 use vcd_script::{answer_line, parse_line, split_line};
 
@@ -37,6 +40,8 @@ pub struct DryRun {
     pub origins: Vec<usize>,
     /// The cuts in force, the oldest first.
     pub cuts: Vec<CutTicks>,
+    /// The lines that made the edits in force, in their order.
+    pub edit_lines: Vec<Word>,
     /// The capture after the last line, without changes.
     pub last: Capture,
 }
@@ -76,6 +81,8 @@ pub fn dry_run(
         (last_edits (contents outline) skipped depth (script_lines script.now))) }
     ensures cuts { IfOk result (λ dry. dry.cuts.items
         ≡ ticks_of_cuts (last_edits (contents outline) skipped depth (script_lines script.now))) }
+    ensures lines { IfOk result (λ dry. dry.edit_lines.items
+        ≡ lines_in_force (contents outline) skipped depth (script_lines script.now)) }
     ensures last { IfOk result (λ dry. contents dry.last
         ≡ last_capture (contents outline) skipped depth (script_lines script.now)) }
     ensures line { IfErr result (λ e. e.line ≤ length (script_lines script.now)) }
@@ -102,35 +109,37 @@ fn begin(
     alloc: Global,
     outline: Capture,
     depth: u64,
-) -> Result<(Session, OriginHistory, Vec<bool>), NoMemory>
+) -> Result<(Session, EditHistory, Vec<bool>), NoMemory>
     requires least { 1 ≤ depth }
     requires most { depth ≤ DEPTH_LIMIT }
     requires sound { IsSound (contents outline) }
     ensures session { IfOk result (λ begun.
         begun.0 ≡ initial_machine (contents outline) depth) }
     ensures history { IfOk result (λ begun.
-        begun.1 ≡ notes_before_edits (length (contents outline).signals)) }
+        begun.1 ≡ noted_before_lines (length (contents outline).signals)) }
     ensures heard { IfOk result (λ begun.
         begun.2.items ≡ replicate (length (contents outline).signals) false) }
 {
     let count = outline.signals.len();
     let heard = none_heard(alloc, count)?;
-    let history = OriginHistory::new(alloc, count)?;
+    let history = EditHistory::new(alloc, count)?;
     let session = Session::new(alloc, outline, depth).map_err(|_| NoMemory)?;
     Ok((session, history, heard))
 }
 
 /// What is found after the last line.
-fn found(session: Session, history: OriginHistory, heard: Vec<bool>, cuts: Vec<CutTicks>) -> DryRun
+fn found(session: Session, history: EditHistory, heard: Vec<bool>, cuts: Vec<CutTicks>) -> DryRun
     ensures heard { result.heard ≡ heard }
-    ensures origins { result.origins.items ≡ history.origins }
+    ensures origins { result.origins.items ≡ history.notes.origins }
     ensures cuts { result.cuts ≡ cuts }
+    ensures lines { result.edit_lines.items ≡ reverse history.lines.in_force }
     ensures last { contents result.last ≡ session.now }
 {
     DryRun {
         heard,
-        origins: history.into_origins(),
+        origins: history.origins.into_origins(),
         cuts,
+        edit_lines: history.lines.into_lines(),
         last: session.into_capture(),
     }
 }
@@ -142,7 +151,7 @@ fn hear_lines(
     skipped: u64,
     script: &[u8],
     heard: &mut [bool],
-    history: &mut OriginHistory,
+    history: &mut EditHistory,
 ) -> Result<(), NoMemoryAt>
     requires { length script.now < 2 ^ 60 }
     ensures machine { OnOk result
@@ -173,7 +182,7 @@ fn hear_line(
     number: u64,
     line: &[u8],
     heard: &mut [bool],
-    history: &mut OriginHistory,
+    history: &mut EditHistory,
 ) -> Result<(), NoMemory>
     ensures { OnOk result (HearsLine skipped line.now session.old session.new
         history.old history.new heard.old heard.new) }
@@ -184,5 +193,5 @@ fn hear_line(
     if reply.is_refused {
         return Ok(());
     }
-    history.follow(&asked)
+    history.follow(alloc, &asked, line)
 }

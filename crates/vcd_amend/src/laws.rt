@@ -18,6 +18,7 @@ ghost use Rattle.vcd_amend.specs.AmendedRun.{RemainingByHollow};
 ghost use Rattle.vcd_amend.specs.EditedText.{CutsInForceLeaveTicks, RetimedCaptureIsReplayOfCuts};
 ghost use Rattle.vcd_amend.specs.EditedText.{AcceptedFileHasPieces, EditedTextMeansLastCapture};
 ghost use Rattle.vcd_amend.specs.EditedText.{NoCutLeavesPieces};
+ghost use Rattle.vcd_amend.specs.EditsInForce.{LinesInForceAskForEdits};
 
 /// If an amendment fits an accepted file, the amended file is accepted, and means the amended
 /// capture. As many variables are skipped as before, and they stand with their changes.
@@ -95,4 +96,9 @@ pub fn cuts_in_force_retime_files()
     ensures ticks { CutsInForceLeaveTicks }
     ensures capture { RetimedCaptureIsReplayOfCuts }
     ensures no_cut { NoCutLeavesPieces }
+{}
+
+/// The lines whose edits are in force, as a mark has them, ask in their order for these edits.
+pub fn lines_in_force_ask_for_edits()
+    ensures { LinesInForceAskForEdits }
 {}

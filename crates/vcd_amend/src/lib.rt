@@ -37,7 +37,7 @@ mod running;
 mod sharing;
 mod skipped_names;
 
-pub use amending::{amend, amend_after_cuts};
+pub use amending::{amend, amend_after_cuts, amend_marked};
 pub use amendment::{AddedVariable, AmendedCode, Amendment, Fate};
 pub use coding::amendment_for;
 pub use cut_ticks::CutTicks;
@@ -48,8 +48,9 @@ pub use dry_running::{DryRun, NoMemoryAt, dry_run};
 pub use hearing::{HearError, read_heard};
 pub use laws::{
     amended_file_is_read_again, copy_is_amended_text, cuts_in_force_retime_files,
-    edited_file_is_read_again, fresh_codes_are_fresh, other_capture_is_read_again,
-    retimed_copy_is_copy_of_retimed, retimed_file_is_meant, signals_remain, untouched_items_stand,
+    edited_file_is_read_again, fresh_codes_are_fresh, lines_in_force_ask_for_edits,
+    other_capture_is_read_again, retimed_copy_is_copy_of_retimed, retimed_file_is_meant,
+    signals_remain, untouched_items_stand,
 };
 pub use new_names::takes_skipped_name;
 pub use on_bytes::{AmendRefusal, amend_on_bytes};

@@ -51,6 +51,7 @@ pub fn amend_on_bytes(
         &mut FromBytes::new(script),
         &mut replies,
         &mut remarks,
+        None,
         Some(&mut output),
         depth,
     );

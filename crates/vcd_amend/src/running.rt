@@ -8,6 +8,8 @@ ghost use Rattle.vcd_core.specs.CaptureContents.{contents};
 ghost use Rattle.vcd_core.specs.Devices.{device_end, HasPrefix};
 ghost use Rattle.vcd_core.specs.Sound.{IsSound};
 ghost use Rattle.vcd_text.specs.CopyEnds.{CopyFails};
+ghost use Rattle.vcd_text.specs.Marks.{IsMarkedFile};
+ghost use Rattle.vcd_text.specs.MarkText.{piece_of_mark};
 ghost use Rattle.vcd_text.specs.declared.reading.TheConstants.{LONG_FILE_LIMIT};
 ghost use Rattle.vcd_journal.specs.Machine.{initial_machine};
 ghost use Rattle.vcd_journal.specs.Origins.{origins};
@@ -19,20 +21,22 @@ ghost use Rattle.vcd_script.specs.LineRunEnds.{RunsLines};
 ghost use Rattle.vcd_script.specs.declared.running.run_error.RunError.TheVariants as run_errors;
 ghost use Rattle.vcd_script.specs.declared.running.script_input.TheConstants.{SCRIPT_LIMIT};
 ghost use Rattle.vcd_amend.specs.Amendment.{Amendment as AmendmentContents};
-ghost use Rattle.vcd_amend.specs.AmendRunEnds.{pass_ends, AreReady, AmendRunEnds};
+ghost use Rattle.vcd_amend.specs.AmendRunEnds.{pass_ends, AreReady};
+ghost use Rattle.vcd_amend.specs.EditsInForce.{lines_in_force};
+ghost use Rattle.vcd_amend.specs.MarkedRun.{MarkedRunEnds, mark_with};
 ghost use Rattle.vcd_amend.specs.KnownSignals.{IsAmendmentFor};
 ghost use Rattle.vcd_amend.specs.DeclaredVariables.{declarations_of, HaveSizesOf};
 ghost use Rattle.vcd_amend.specs.RetimedCopy.{IsAmendedAfterCuts, is_cut_by};
 ghost use Rattle.vcd_amend.specs.TakenRemarks.{TakesRemarks};
 ghost use Rattle.vcd_amend.specs.inside.CaptureAfterCuts.{capture_after_cuts};
 ghost use Rattle.vcd_amend.specs.inside.Running.{RefusesPlan, IsLaterCapture, ShowUpTo, IsPlanned};
-ghost use Rattle.vcd_amend.specs.inside.Running.{IsEdited, IsDryRun};
+ghost use Rattle.vcd_amend.specs.inside.Running.{IsEdited, IsDryRun, HasEditLines};
 ghost use Rattle.vcd_amend.specs.inside.Running.{EndsBeforeReplies, EndsBeforeCopy, StopsInRun};
 ghost use Rattle.vcd_amend.specs.inside.Running.{error_of_hearing, error_of_copy};
 ghost use Rattle.vcd_amend.specs.declared.running.AmendRunError.TheVariants as errors;
 
 use crate::after_cuts::after_cuts;
-use crate::amending::amend_after_cuts;
+use crate::amending::amend_marked;
 use crate::coding::amendment_for;
 use crate::cut_ticks::CutTicks;
 use crate::declarations::signal_sizes::have_sizes_of;
@@ -43,10 +47,10 @@ use crate::new_names::takes_skipped_name;
 use crate::outlining::{Outline, read_outline};
 use crate::sharing::share_capture;
 use std::alloc::Global;
-use vcd_core::{Capture, NoMemory, SIGNAL_LIMIT, Sink, Source};
+use vcd_core::{Capture, NoMemory, SIGNAL_LIMIT, Sink, Source, Word};
 use vcd_journal::{DEPTH_LIMIT, Session};
 use vcd_script::{RunError, Summary, read_script, remark_on_lines, run_lines};
-use vcd_text::{CopyError, ReadError};
+use vcd_text::{CopyError, Mark, MarkHead, ReadError};
 
 /// One source of a capture file for each pass over it.
 #[derive(Drop)]
@@ -86,6 +90,8 @@ struct Plan {
     origins: Vec<usize>,
     /// The cuts in force after the last line, the oldest first.
     cuts: Vec<CutTicks>,
+    /// The lines whose edits are in force after the last line, in their order.
+    edit_lines: Vec<Word>,
     /// Whether a signal would get the name of a skipped variable.
     takes_skipped_name: bool,
 }
@@ -97,6 +103,7 @@ struct Edited {
     first: Capture,
     origins: Vec<usize>,
     cuts: Vec<CutTicks>,
+    edit_lines: Vec<Word>,
     session: Session,
     refused: u64,
 }
@@ -148,7 +155,8 @@ impl From<CopyError> for AmendRunError {
 }
 
 /// Runs the script on the capture, and writes the file as it is after the script, if there is an
-/// output: every byte stands that no edit in force touches.
+/// output: every byte stands that no edit in force touches. With the head of a mark the output has
+/// the mark after its declarations, with the lines whose edits are in force.
 ///
 /// The file is read four times: its declarations, all of it without a change, the changes that the
 /// script asks for, and then for the copy. Only these changes are held, and while a signal is
@@ -163,6 +171,7 @@ pub fn amend_run<R: Source, S: Source, P: Sink, Q: Sink, W: Sink>(
     script_reader: &mut S,
     replies: &mut P,
     remarks: &mut Q,
+    mark: Option<MarkHead<'_>>,
     out: Option<&mut W>,
     depth: u64,
 ) -> Result<Summary, AmendRunError>
@@ -173,8 +182,8 @@ pub fn amend_run<R: Source, S: Source, P: Sink, Q: Sink, W: Sink>(
     requires out_ready { ForSome out (λ w. W.has_failed w.now ≡ false) }
     requires depth_least { 1 ≤ depth }
     requires depth_most { depth ≤ DEPTH_LIMIT }
-    ensures ends { ForOutput W.taken W.has_failed out.entry out.exit (λ output. AmendRunEnds depth
-        (pass_ends R.coming R.has_failed passes.old passes.new)
+    ensures ends { ForOutput W.taken W.has_failed out.entry out.exit (λ output. MarkedRunEnds depth
+        mark.entry (pass_ends R.coming R.has_failed passes.old passes.new)
         (device_end S.coming S.has_failed script_reader.old script_reader.new)
         (device_end P.taken P.has_failed replies.old replies.new) output result) }
     ensures output_flushed { OnOk result (IsOutputFlushed W.is_flushed out.entry out.exit) }
@@ -189,7 +198,7 @@ pub fn amend_run<R: Source, S: Source, P: Sink, Q: Sink, W: Sink>(
         Some(out) => {
             let edited = run_script(alloc, passes, script_reader, replies, remarks, depth, true)?;
             let refused = edited.refused;
-            copy_amended(alloc, &mut passes.copy, edited, out)?;
+            copy_amended(alloc, &mut passes.copy, edited, mark, out)?;
             Ok(Summary { refused })
         }
         None => {
@@ -223,6 +232,9 @@ fn run_script<R: Source, S: Source, P: Sink, Q: Sink>(
         → IsEdited file lines depth writes (Appends (P.taken replies.old) (P.taken replies.new))
         (declarations_of edited.declared.items) (contents edited.first) edited.origins.items
         edited.cuts.items edited.session.now edited.refused) }
+    ensures lines { IfOk result (λ edited. (file lines : List ℕ)
+        → ShowUpTo R.coming passes.old file → S.coming script_reader.old ≡ Some lines
+        → HasEditLines file lines depth edited.edit_lines.items) }
     ensures sizes { IfOk result (λ edited. HaveSizesOf (contents edited.first).signals
         (declarations_of edited.declared.items)) }
     ensures come { IfOk result (λ edited. IsLaterCapture (contents edited.first)
@@ -275,6 +287,9 @@ fn make_plan<R: Source, S: Source>(
         → IsPlanned file lines depth (declarations_of plan.declared.items) plan.skipped
         (contents plan.first) plan.origins.items plan.cuts.items plan.takes_skipped_name
         × (plan.script.items ≡ lines)) }
+    ensures lines { IfOk result (λ plan. (file lines : List ℕ)
+        → ShowUpTo R.coming passes.old file → S.coming script_reader.old ≡ Some lines
+        → HasEditLines file lines depth plan.edit_lines.items) }
     ensures file_short { OnOk result (IfSome (R.coming passes.old.outline) (λ file.
         length file ≤ LONG_FILE_LIMIT)) }
     ensures sound { IfOk result (λ plan. IsSound (contents plan.first)) }
@@ -307,6 +322,7 @@ fn make_plan<R: Source, S: Source>(
         script,
         origins: dry.origins,
         cuts: dry.cuts,
+        edit_lines: dry.edit_lines,
         takes_skipped_name: takes,
     })
 }
@@ -339,6 +355,9 @@ fn try_lines(
     ensures kept { IfOk result (λ both. contents both.0 ≡ contents outline.capture) }
     ensures tried { IfOk result (λ both. IsDryRun (contents outline.capture) outline.skipped depth
         (script_lines script.now) both.1) }
+    ensures lines { IfOk result (λ both. both.1.edit_lines.items
+        ≡ lines_in_force (contents outline.capture) outline.skipped depth
+        (script_lines script.now)) }
 {
     let (kept, tried) = share_capture(alloc, outline.capture)?;
     match dry_run(alloc, tried, outline.skipped, depth, script) {
@@ -366,7 +385,7 @@ fn edit<P: Sink, Q: Sink>(
         (P.taken replies.old) (P.taken replies.new)) }
     ensures kept { IfOk result (λ edited. (edited.declared ≡ plan.declared)
         × (contents edited.first ≡ contents plan.first) × (edited.origins ≡ plan.origins)
-        × (edited.cuts ≡ plan.cuts)) }
+        × (edited.cuts ≡ plan.cuts) × (edited.edit_lines ≡ plan.edit_lines)) }
     ensures not_failed { OnOk result (P.has_failed replies.new ≡ false) }
     ensures stops { IfErr result (StopsInRun plan.skipped (script_lines plan.script.items)
         (initial_machine (contents plan.first) depth)
@@ -387,6 +406,7 @@ fn edit<P: Sink, Q: Sink>(
         first,
         origins: plan.origins,
         cuts: plan.cuts,
+        edit_lines: plan.edit_lines,
         session,
         refused,
     })
@@ -431,11 +451,13 @@ fn begin_session(alloc: Global, capture: Capture, depth: u64) -> Result<Session,
     }
 }
 
-/// Copies the file after the cuts with what else the script has changed.
+/// Copies the file after the cuts with what else the script has changed, and with a mark if one is
+/// asked for.
 fn copy_amended<R: Source, W: Sink>(
     alloc: Global,
     reader: &mut R,
     edited: Edited,
+    head: Option<MarkHead<'_>>,
     out: &mut W,
 ) -> Result<(), CopyError>
     requires reader_ready { R.has_failed reader.old ≡ false }
@@ -450,8 +472,10 @@ fn copy_amended<R: Source, W: Sink>(
         × IsAmendmentFor (declarations_of edited.declared.items)
         (capture_after_cuts (contents edited.first) edited.cuts.items).signals
         edited.origins.items edited.session.now.signals a
+        × (marked : List ℕ)
+        × IsMarkedFile SIGNAL_LIMIT (mark_with head.entry edited.edit_lines.items) file marked
         × (text : List ℕ)
-        × IsAmendedAfterCuts SIGNAL_LIMIT (is_cut_by edited.cuts.items) a file text
+        × IsAmendedAfterCuts SIGNAL_LIMIT (is_cut_by edited.cuts.items) a marked text
         × Appends (W.taken out.old) (W.taken out.new) text)) }
     ensures not_failed { OnOk result (W.has_failed out.new ≡ false) }
     ensures flushed { OnOk result (W.is_flushed out.new ≡ true) }
@@ -464,6 +488,7 @@ fn copy_amended<R: Source, W: Sink>(
         first,
         origins,
         cuts,
+        edit_lines,
         session,
         ..
     } = edited;
@@ -471,5 +496,24 @@ fn copy_amended<R: Source, W: Sink>(
     let first = after_cuts(alloc, first, cuts)?;
     let last = session.capture();
     let amendment = amendment_for(alloc, declared.as_slice(), &first, origins.as_slice(), last)?;
-    amend_after_cuts(alloc, reader, SIGNAL_LIMIT as u32, cuts, &amendment, out)
+    let mark = mark_of(head, edit_lines.as_slice());
+    amend_marked(
+        alloc,
+        reader,
+        SIGNAL_LIMIT as u32,
+        cuts,
+        &amendment,
+        mark,
+        out,
+    )
+}
+
+/// The mark with these edits, if one is asked for.
+fn mark_of<'a>(head: Option<MarkHead<'a>>, edits: &'a [Word]) -> Option<Mark<'a>>
+    ensures { piece_of_mark result ≡ mark_with head.entry edits.now }
+{
+    match head {
+        Some(head) => Some(Mark { head, edits }),
+        None => None,
+    }
 }

@@ -2,3 +2,4 @@ pub mod part
 pub mod shared
 pub mod read_back
 pub mod pieces
+pub mod marks

@@ -23,4 +23,6 @@ pub mod CutLaws
 pub mod Copied
 pub mod VariableWords
 pub mod CopyEnds
+pub mod Marks
+pub mod MarkText
 pub mod inside

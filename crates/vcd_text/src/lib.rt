@@ -12,6 +12,7 @@
 mod copying;
 mod fault;
 mod laws;
+mod marking;
 mod reading;
 mod words;
 mod writing;
@@ -19,9 +20,10 @@ mod writing;
 pub use copying::{AmendableItem, Amender, InPlace, VariableWords, copy};
 pub use fault::{CopyError, Fault, ReadError, WriteError};
 pub use laws::{
-    file_is_cut, has_an_answer, has_one_answer, nothing_else_is_read_back, parts_agree,
-    prefix_fault_stays, prefix_has_one_fault, text_is_read_back,
+    file_is_cut, has_an_answer, has_one_answer, mark_changes_no_meaning, nothing_else_is_read_back,
+    parts_agree, prefix_fault_stays, prefix_has_one_fault, text_is_read_back,
 };
+pub use marking::{Mark, MarkHead, Marked};
 pub use reading::{
     Choice, CodeTargets, DeclaredSignal, FILE_LIMIT, LONG_FILE_LIMIT, Loaded, TickRange,
     VARIABLE_LIMIT, read, read_part, value_of_digits,

@@ -19,11 +19,18 @@ quiet_option = record (new_rule (codes "quiet")) {
   action = Some SetTrue;
 }
 
+-- `--mark`, without a value
+abbrev pub mark_option : Rule
+mark_option = record (new_rule (codes "mark")) {
+  long = Some (codes "mark");
+  action = Some SetTrue;
+}
+
 -- with the options
 abbrev pub with_options : App → App
-with_options app = with_rule (with_rule (with_rule (with_rule (with_rule (with_rule app
-    input_option) (value_option (codes "script"))) output_option) depth_option) quiet_option)
-    capture_argument
+with_options app = with_rule (with_rule (with_rule (with_rule (with_rule (with_rule (with_rule app
+    input_option) (value_option (codes "script"))) output_option) mark_option) depth_option)
+    quiet_option) capture_argument
 
 -- `--NAME VALUE`, any number of times
 abbrev pub list_option : Text → Rule
@@ -45,13 +52,15 @@ option_app = with_part (with_options (record (new_app (codes "vcdedit-amend")) {
   top = record (new_shape (codes "vcdedit-amend")) { no_binary_name = true; has_version = true };
 }))
 
--- the text of each given option, the depth, and whether remarks are to be left out
+-- the text of each given option, the depth, whether the output is to have a mark, and whether
+-- remarks are to be left out
 pub record AskedOptions : Type 0 where
   pub input : Option Text
   pub capture : Option Text
   pub script : Option Text
   pub output : Option Text
   pub depth : ℕ
+  pub is_marked : Bool
   pub is_quiet : Bool
   pub keep : Option (List Text)
   pub remove : Option (List Text)
@@ -66,6 +75,7 @@ options_in o = record {
   script = option_copied o.script;
   output = option_copied o.output;
   depth = o.depth;
+  is_marked = o.is_marked;
   is_quiet = o.is_quiet;
   keep = texts o.keep;
   remove = texts o.remove;
@@ -87,6 +97,7 @@ asked_options words =
       script = first_of (codes "script") rows;
       output = first_of (codes "output-file") rows;
       depth = depth_asked (one_of (codes "depth") rows);
+      is_marked = is_given (first_of (codes "mark") rows);
       is_quiet = is_given (first_of (codes "quiet") rows);
       keep = all_of (codes "keep") rows;
       remove = all_of (codes "remove") rows;

@@ -5,3 +5,4 @@ pub mod Sums
 pub mod ProgramEnds
 pub mod PartOutcome
 pub mod OptionsEnd
+pub mod Marks

@@ -1,16 +1,24 @@
 -- How a run ends that the words of the command line ask for. The rules are the project's own.
-use Rattle.std.specs.Prelude.{◌≡◌, true, false, Result, Err}
+use Rattle.std.specs.Prelude.{◌≡◌, ◌&&◌, Bool, true, false, not, is_some, Result, Err}
+use Rattle.std.specs.Prelude.{MatchBool}
 use Rattle.std.specs.Result.{MatchResult}
 use Rattle.vcd_script.specs.declared.running.run_error.Summary.{Summary}
 use Rattle.vcdedit_amend.specs.declared.amend_error.AmendError.{AmendError}
+use Rattle.vcdedit_amend.specs.declared.amend_error.AmendError.TheVariants as errors
 use Rattle.vcdedit_amend.specs.CommandLine.{AskedOptions, ask_for_part}
 use Rattle.vcdedit_amend.specs.ProgramEnds.{capture_path, IsOutcomeOnFile}
 use Rattle.vcdedit_amend.specs.PartOutcome.{IsOutcomeWithPart}
 
--- the outcome of options that ask for the whole capture, which they may name as no file
+-- whether a mark is asked for, and no output
+abbrev pub has_nothing_to_mark : AskedOptions → Bool
+has_nothing_to_mark o = o.is_marked && not (is_some o.output)
+
+-- the outcome of options that ask for the whole capture, which they may name as no file; without
+-- an output there is nothing to mark
 abbrev pub IsOutcomeWithoutPart : AskedOptions → Result Summary AmendError → Type 0
 IsOutcomeWithoutPart o outcome = MatchResult (capture_path o.input o.capture)
-    (λ path. IsOutcomeOnFile o outcome) (λ e. outcome ≡ Err e)
+    (λ path. MatchBool (has_nothing_to_mark o) (outcome ≡ Err errors.NothingToMark)
+    (IsOutcomeOnFile o outcome)) (λ e. outcome ≡ Err e)
 
 -- the outcome of any options
 pub record IsOutcomeOfOptions (o : AskedOptions) (outcome : Result Summary AmendError) : Type 0

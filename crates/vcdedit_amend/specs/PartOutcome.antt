@@ -1,6 +1,6 @@
 -- A part of the capture as the words of the command line ask for it, and how taking it ends. The
 -- rules are the project's own.
-use Rattle.std.specs.Prelude.{◌≡◌, ◌⊎◌, ℕ, ◌^◌, ◌-◌, Option, Some, None, Result, Ok, Err}
+use Rattle.std.specs.Prelude.{◌≡◌, ◌⊎◌, ℕ, ◌^◌, ◌-◌, true, Option, Some, None, Result, Ok, Err}
 use Rattle.std.specs.Prelude.{IsSome}
 use Rattle.clap.specs.Words.{Text}
 use Rattle.vcd_core.specs.Devices.{DeviceEnd}
@@ -68,13 +68,17 @@ IsTaken r capture out (Ok done) = PartEnds r capture out (Ok done)
 IsTaken r capture out (Err e) =
     (error : PartError) × PartEnds r capture out (Err error) × (e ≡ part_error error)
 
+-- the part is held in a file: a script is carried out on it, or it is to have a mark
+abbrev pub IsHeld : AskedOptions → Type 0
+IsHeld o = IsSome o.script ⊎ (o.is_marked ≡ true)
+
 -- what comes of a part that was taken: it is the output, if that can be put in its place; or the
 -- script is carried out on it
 abbrev pub IsOutcomeOfTaken : AskedOptions → Result Summary AmendError → Type 0
 IsOutcomeOfTaken o outcome =
     ((o.script ≡ None) × (outcome ≡ Ok (record { refused = 0 })))
     ⊎ ((e : AmendError) × (IsCaptureFault e ⊎ IsOutputFault o.output e) × (outcome ≡ Err e))
-    ⊎ (IsSome o.script × IsOutcomeOnFile o outcome)
+    ⊎ (IsHeld o × IsOutcomeOnFile o outcome)
 
 -- the outcome of a request: a device can't be opened; or no part of some capture is taken; or one
 -- is
@@ -90,5 +94,6 @@ IsOutcomeOfRequest o r outcome =
 -- the outcome of options that ask for a part
 abbrev pub IsOutcomeWithPart : AskedOptions → Result Summary AmendError → Type 0
 IsOutcomeWithPart o outcome = (outcome ≡ Err errors.TwoCaptures)
+    ⊎ ((o.is_marked ≡ true) × (o.output ≡ None) × (outcome ≡ Err errors.NothingToMark))
     ⊎ ((e : AmendError) × IsTimeFault o e × (outcome ≡ Err e))
     ⊎ ((r : Request) × IsRequest o r × IsOutcomeOfRequest o r outcome)

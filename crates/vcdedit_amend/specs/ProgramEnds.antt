@@ -1,6 +1,6 @@
 -- How a run ends that the words of the command line ask for: its outcome, the exit status, and the
 -- text on standard error. The rules are the project's own.
-use Rattle.std.specs.Prelude.{◌≡◌, ◌⊎◌, ℕ, false, List, [], if◌then◌else◌}
+use Rattle.std.specs.Prelude.{◌≡◌, ◌⊎◌, ℕ, true, false, List, [], if◌then◌else◌}
 use Rattle.std.specs.Prelude.{Option, Some, None, IsSome, is_some, Result, Ok, Err}
 use Rattle.std.specs.Result.{MatchResult}
 use Rattle.clap.specs.Words.{Text}
@@ -8,7 +8,9 @@ use Rattle.vcd_core.specs.Devices.{DeviceEnd}
 use Rattle.vcd_text.specs.declared.fault.Fault.TheVariants as faults
 use Rattle.vcd_script.specs.declared.running.run_error.RunError.TheVariants as run_errors
 use Rattle.vcd_script.specs.declared.running.run_error.Summary.{Summary}
-use Rattle.vcd_amend.specs.AmendRunEnds.{AmendRunEnds, PassEnds}
+use Rattle.vcd_amend.specs.AmendRunEnds.{PassEnds}
+use Rattle.vcd_amend.specs.MarkedRun.{MarkedRunEnds}
+use Rattle.vcd_text.specs.declared.marking.head.MarkHead.{MarkHead}
 use Rattle.vcd_amend.specs.TakenRemarks.{TakesRemarks}
 use Rattle.vcd_amend.specs.declared.running.AmendRunError.{AmendRunError}
 use Rattle.vcd_amend.specs.declared.running.AmendRunError.TheVariants as amend_run_errors
@@ -17,7 +19,7 @@ use Rattle.vcd_shell.specs.Report.{done_status}
 use Rattle.vcd_shell.specs.declared.safe_file.OutputFault.{OutputFault}
 use Rattle.vcdedit_amend.specs.declared.amend_error.AmendError.{AmendError}
 use Rattle.vcdedit_amend.specs.declared.amend_error.AmendError.TheVariants as errors
-use Rattle.vcdedit_amend.specs.CommandLine.{AskedOptions}
+use Rattle.vcdedit_amend.specs.CommandLine.{AskedOptions, ask_for_part}
 use Rattle.vcdedit_amend.specs.Report.{error_status, error_text}
 
 -- the exit status of an outcome
@@ -48,6 +50,10 @@ abbrev pub not_read : AmendError
 not_read = errors.Run (amend_run_errors.Run
     (run_errors.Capture (record { line = 1; fault = faults.ReadFault })))
 
+-- memory ran out before the run began
+abbrev pub no_memory : AmendError
+no_memory = errors.Run (amend_run_errors.Run (run_errors.NoMemory 0))
+
 -- ---- how a run ends
 
 -- the file of the output, which is asked for, can't be begun, or not be put in its place
@@ -69,32 +75,38 @@ IsOutcomeOfRun output (Err e) outcome = outcome ≡ Err (errors.Run e)
 -- why a run on these inputs does not begin: there is no memory for the buffer of the replies, or
 -- the file of the output can't be begun
 abbrev pub IsDeviceFault : (output : Option Text) → AmendError → Type 0
-IsDeviceFault output e = (e ≡ errors.Run (amend_run_errors.Run (run_errors.NoMemory 0)))
-    ⊎ IsOutputFault output e
+IsDeviceFault output e = (e ≡ no_memory) ⊎ IsOutputFault output e
 
 -- the outcome is that of a run with this script on some capture, or the run does not begin; it
--- writes the output if there is a path
-abbrev pub IsOutcomeOn : (output : Option Text) → Result Summary AmendError → (depth : ℕ)
-    → (script : DeviceEnd) → Type 0
-IsOutcomeOn output outcome depth script =
+-- writes the output if there is a path, with this mark if there is one
+abbrev pub IsOutcomeOn : (output : Option Text) → (mark : Option MarkHead)
+    → Result Summary AmendError → (depth : ℕ) → (script : DeviceEnd) → Type 0
+IsOutcomeOn output mark outcome depth script =
     ((e : AmendError) × IsDeviceFault output e × (outcome ≡ Err e))
     ⊎ ((passes : PassEnds) × (replies remarks : DeviceEnd)
     × (written : Option DeviceEnd) × (is_some written ≡ is_some output)
     × (ended : Result Summary AmendRunError)
-    × AmendRunEnds depth passes script replies written ended
+    × MarkedRunEnds depth mark passes script replies written ended
     × TakesRemarks depth passes script remarks
     × IsOutcomeOfRun output ended outcome)
 
 -- why the inputs can't be opened: the capture is no regular file, or it can't be opened; or the
--- script, if one is asked for
+-- script, if one is asked for; or there is no memory for what a mark says of the capture
 abbrev pub IsInputFault : AskedOptions → AmendError → Type 0
 IsInputFault o e = (e ≡ errors.NotAFile) ⊎ (e ≡ not_read)
     ⊎ ((e ≡ errors.Run (amend_run_errors.Run run_errors.ScriptReadFault)) × IsSome o.script)
+    ⊎ ((e ≡ no_memory) × (o.is_marked ≡ true))
+
+-- the script without a path: none for a part, and else the default
+abbrev pub script_without_path : AskedOptions → List ℕ
+script_without_path o = if ask_for_part o then [] else default_script
 
 -- the outcome is that of these options on a capture that is named as a file; without a path the
--- script has the bytes of the default, and does not fail
+-- script does not fail; there is a mark if one is asked for
 abbrev pub IsOutcomeOnFile : AskedOptions → Result Summary AmendError → Type 0
 IsOutcomeOnFile o outcome = ((e : AmendError) × IsInputFault o e × (outcome ≡ Err e))
     ⊎ ((script : DeviceEnd)
-    × (o.script ≡ None → (script.before ≡ Some default_script) × (script.has_failed ≡ false))
-    × IsOutcomeOn o.output outcome o.depth script)
+    × (o.script ≡ None → (script.before ≡ Some (script_without_path o))
+    × (script.has_failed ≡ false))
+    × (mark : Option MarkHead) × (is_some mark ≡ o.is_marked)
+    × IsOutcomeOn o.output mark outcome o.depth script)

@@ -31,6 +31,7 @@ abbrev pub error_status : AmendError → ℕ
 error_status errors.TwoCaptures = 2
 error_status errors.NoCapture = 2
 error_status errors.NotAFile = 4
+error_status errors.NothingToMark = 2
 error_status (errors.Part fault) = part_status fault
 error_status (errors.Run e) = run_status e
 error_status (errors.Output fault) = output_status fault
@@ -76,6 +77,8 @@ error_text errors.NoCapture =
     own_report (codes "NoCapture: name a file as the capture; it is read several times")
 error_text errors.NotAFile = own_report
     (codes "NotAFile: the capture is no regular file, and so it can't be read several times")
+error_text errors.NothingToMark =
+    own_report (codes "NothingToMark: --mark marks the output; name its file after -o")
 error_text (errors.Part fault) = part_text fault
 error_text (errors.Run e) = run_text e
 error_text (errors.Output fault) = output_report (codes "vcdedit-amend") fault

@@ -19,6 +19,8 @@ pub enum AmendError {
     NoCapture,
     /// The capture is no regular file.
     NotAFile,
+    /// A mark is asked for, and no output.
+    NothingToMark,
     /// No part was taken.
     Part(PartFault),
     /// The run was not completed.

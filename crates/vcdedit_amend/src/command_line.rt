@@ -13,7 +13,8 @@ use vcd_shell::{
     value_option,
 };
 
-const VERSION: &str = "1.0.0";
+/// The version of the program.
+pub const VERSION: &str = "1.0.0";
 
 const ABOUT: &str = "\
 Edits a four-state waveform capture (VCD, IEEE 1364-2005, 18.2) of any size by script, with undo and
@@ -33,6 +34,11 @@ then it is beside it, as .NAME.vcdedit. A link is followed. Anything but a regul
 Not edited here:
   A variable of real numbers, strings or events stays, with its changes; no signal can get its name.
 
+A mark:
+  With --mark the output has a comment after its declarations: the name, size and SHA-256 of the
+  capture, and the lines of the script whose edits are in force. It needs -o, and a capture that is
+  a file, which is read once more.
+
 A part:
   With --keep, --remove, --from or --to, a part of the capture is the output, or without -o goes to
   standard output. With --script too, the script is carried out on the part, which meanwhile is a
@@ -49,6 +55,7 @@ A part:
 Examples:
   vcdedit-amend big.vcd --script script.txt -o new.vcd    carries out a script, writes the result
   vcdedit-amend big.vcd --script script.txt -o big.vcd    the same, in the place of the capture
+  vcdedit-amend big.vcd --script script.txt -o new.vcd --mark    with a comment that says how
   vcdedit-amend big.vcd                                   shows what it holds
   vcdedit-amend big.vcd --from 1.5ms --to 2ms -o part.vcd                 a window
   vcdedit-amend big.vcd --keep '*.uart_rx' --keep '*.clk' -o part.vcd     some variables
@@ -82,6 +89,8 @@ pub struct Options<'m, 'a> {
     pub output: Option<&'a str>,
     /// How many edits are held for undo and redo, from 1 to `DEPTH_LIMIT`.
     pub depth: u64,
+    /// Whether the output is to have a mark.
+    pub is_marked: bool,
     /// Whether remarks are left out.
     pub is_quiet: bool,
     /// Patterns of names that are kept.
@@ -117,11 +126,22 @@ pub fn options_of<'m, 'a>(matches: &'m ArgMatches<'a>) -> Options<'m, 'a>
         script: matches.get_str("script"),
         output: matches.get_str("output-file"),
         depth: depth_of(matches),
+        is_marked: is_marked(matches),
         is_quiet: is_quiet(matches),
         keep: matches.get_strs("keep"),
         remove: matches.get_strs("remove"),
         from: matches.get_str("from"),
         to: matches.get_str("to"),
+    }
+}
+
+/// Whether `--mark` is given.
+fn is_marked(matches: &ArgMatches<'_>) -> bool
+    ensures { result ≡ spec.is_given (first_value (found_of matches.now) (codes "mark")) }
+{
+    match matches.get_str("mark") {
+        Some(value) => value == "true",
+        None => false,
     }
 }
 
@@ -155,6 +175,7 @@ fn with_options<'a>(program: Command<'a>, alloc: Global) -> Result<Command<'a>, 
         .arg(file_option(alloc))?
         .arg(script_option(alloc))?
         .arg(output_option(alloc, OUTPUT_HELP))?
+        .arg(mark_option(alloc))?
         .arg(depth_option(alloc))?
         .arg(quiet_option(alloc))?
         .arg(capture_argument(alloc))
@@ -170,6 +191,8 @@ fn with_part<'a>(program: Command<'a>, alloc: Global) -> Result<Command<'a>, All
         .arg(value_option(alloc, "from", "TIME", FROM_HELP))?
         .arg(value_option(alloc, "to", "TIME", TO_HELP))
 }
+
+const MARK_HELP: &str = "Write a comment into the output that says what it was made of, and how";
 
 const KEEP_HELP: &str = "Keep the variables with such a name; repeatable. Without it all are kept";
 
@@ -193,6 +216,17 @@ fn file_option<'a>(alloc: Global) -> Arg<'a>
     ensures local { result.global ≡ false }
 {
     input_option(alloc).help("The capture to read: a file, or for a part also `-`, standard input")
+}
+
+/// `--mark`.
+fn mark_option<'a>(alloc: Global) -> Arg<'a>
+    ensures rule { rule_of result ≡ spec.mark_option }
+    ensures local { result.global ≡ false }
+{
+    Arg::new(alloc, "mark")
+        .long("mark")
+        .action(ArgAction::SetTrue)
+        .help(MARK_HELP)
 }
 
 /// `--quiet`.

@@ -6,6 +6,7 @@
 #![tactic(auto)]
 
 mod amend_error;
+mod capture_mark;
 mod command_line;
 mod memory_forecast;
 mod near;

@@ -1,13 +1,14 @@
 //! A part of the capture: it is the output, or the script is carried out on it.
 
-ghost use Rattle.std.specs.Prelude.{◌≡◌, ◌≤◌, ◌⊎◌, false, true, Some, None, Err, IsSome, OnOk};
-ghost use Rattle.std.specs.Prelude.{IfErr};
+ghost use Rattle.std.specs.Prelude.{◌≡◌, ◌≤◌, ◌⊎◌, false, true, Some, None, Err, OnOk};
+ghost use Rattle.std.specs.Prelude.{IfErr, is_some};
 ghost use Rattle.vcd_core.specs.Devices.{device_end, DeviceEnd};
 ghost use Rattle.vcdedit_amend.specs.CommandLine.{AskedOptions, options_in};
 ghost use Rattle.vcdedit_amend.specs.ProgramEnds.{IsOutcomeOnFile, not_read};
 ghost use Rattle.vcdedit_amend.specs.PartOutcome as spec;
 
 use crate::amend_error::{AmendError, NO_PART_FILE, NO_SCRIPT, NOT_READ};
+use crate::capture_mark::{digest_of, head_of};
 use crate::command_line::Options;
 use crate::near::tell_unmet;
 use crate::part_file::PartFile;
@@ -22,7 +23,7 @@ use vcd_journal::DEPTH_LIMIT;
 use vcd_part::{Request, write_part};
 use vcd_script::{RunError, Summary};
 use vcd_shell::{SafeFile, open_capture};
-use vcd_text::WriteError;
+use vcd_text::{MarkHead, WriteError};
 
 /// Takes the part that is asked for.
 pub fn run_part<R: Runtime + AllocGlobal>(
@@ -36,11 +37,14 @@ pub fn run_part<R: Runtime + AllocGlobal>(
     if options.input.is_some() && options.capture.is_some() {
         return Err(AmendError::TwoCaptures);
     }
+    if options.is_marked && options.output.is_none() {
+        return Err(AmendError::NothingToMark);
+    }
     let request = request_of(options)?;
     run_request(rt, options, request)
 }
 
-/// Opens the capture, and takes the part.
+/// Takes the part, with a mark if one is asked for. The mark says what the capture is.
 fn run_request<R: Runtime + AllocGlobal>(
     rt: &R,
     options: &Options<'_, '_>,
@@ -52,6 +56,32 @@ fn run_request<R: Runtime + AllocGlobal>(
 {
     let path = options.input.or(options.capture);
     let again = find_file(rt, path);
+    if !options.is_marked {
+        return run_opened(rt, options, request, path, again, None);
+    }
+    let (Some(named), Some(file)) = (path, again) else {
+        return Err(AmendError::NotAFile);
+    };
+    let found = digest_of(rt, file)?;
+    let mark = Some(head_of(named, found.size, found.digest.as_str()));
+    run_opened(rt, options, request, path, again, mark)
+}
+
+/// Opens the capture, and takes the part. A part that is to have a mark is held in a file of its
+/// own first, as one on which a script is carried out.
+fn run_opened<R: Runtime + AllocGlobal>(
+    rt: &R,
+    options: &Options<'_, '_>,
+    request: Request<'_, '_>,
+    path: Option<&str>,
+    again: Option<CaptureFile<'_>>,
+    mark: Option<MarkHead<'_>>,
+) -> Result<Summary, AmendError>
+    requires depth_least { 1 ≤ options.now.depth }
+    requires depth_most { options.now.depth ≤ DEPTH_LIMIT }
+    requires marked { is_some mark ≡ options.now.is_marked }
+    ensures { spec.IsOutcomeOfRequest (options_in options.now) request.entry result }
+{
     let source = open_capture(rt, path).map_err(|_| NOT_READ)?;
     let mut source = FromRead::new(source);
     match options.script {
@@ -60,8 +90,9 @@ fn run_request<R: Runtime + AllocGlobal>(
             if fs::metadata(rt, script).is_err() {
                 return Err(NO_SCRIPT);
             }
-            run_on_part(rt, &mut source, again, request, options)
+            run_on_part(rt, &mut source, again, request, mark, options)
         }
+        None if options.is_marked => run_on_part(rt, &mut source, again, request, mark, options),
         None => write_output(rt, &mut source, again, request, options),
     }
 }
@@ -132,23 +163,25 @@ fn write_to_standard<R: Runtime + AllocGlobal, C: Source>(
     Ok(Summary { refused: 0 })
 }
 
-/// Takes the part to a file of its own, and carries the script out on it.
+/// Takes the part to a file of its own, and carries the script out on it, or none for a mark.
 fn run_on_part<R: Runtime + AllocGlobal, C: Source>(
     rt: &R,
     source: &mut C,
     again: Option<CaptureFile<'_>>,
     request: Request<'_, '_>,
+    mark: Option<MarkHead<'_>>,
     options: &Options<'_, '_>,
 ) -> Result<Summary, AmendError>
     requires ready { C.has_failed source.old ≡ false }
-    requires script { IsSome (options_in options.now).script }
+    requires held { spec.IsHeld (options_in options.now) }
     requires depth_least { 1 ≤ options.now.depth }
     requires depth_most { options.now.depth ≤ DEPTH_LIMIT }
+    requires marked { is_some mark ≡ options.now.is_marked }
     ensures { spec.IsOutcomeOfRequest (options_in options.now) request.entry result }
 {
     let (part, file) = PartFile::create(rt)?;
     match hold_part(rt, source, again, request, file) {
-        Ok(()) => run_on_file_of(rt, &part, again, options),
+        Ok(()) => run_on_file_of(rt, &part, again, mark, options),
         Err(error) => Err(on_part_file(error)),
     }
 }
@@ -174,15 +207,17 @@ fn run_on_file_of<R: Runtime + AllocGlobal>(
     rt: &R,
     part: &PartFile<'_, R>,
     again: Option<CaptureFile<'_>>,
+    mark: Option<MarkHead<'_>>,
     options: &Options<'_, '_>,
 ) -> Result<Summary, AmendError>
     requires depth_least { 1 ≤ options.now.depth }
     requires depth_most { options.now.depth ≤ DEPTH_LIMIT }
+    requires marked { is_some mark ≡ options.now.is_marked }
     ensures { (result ≡ Err spec.no_part_file)
         ⊎ IsOutcomeOnFile (options_in options.now) result }
 {
     match CaptureFile::find(rt, part.path()) {
-        Ok(found) => run_on_file(rt, found, again, options),
+        Ok(found) => run_on_file(rt, found, again, mark, options),
         Err(_) => Err(NO_PART_FILE),
     }
 }

@@ -2,6 +2,7 @@
 //! output is put in its place.
 
 ghost use Rattle.std.specs.Prelude.{◌≡◌, ◌≤◌, false, true, Some, None, Ok, Err, IfOk, IfErr};
+ghost use Rattle.std.specs.Prelude.{is_some};
 ghost use Rattle.std.specs.Option.{option_copied};
 ghost use Rattle.vcd_core.specs.Devices.{device_end};
 ghost use Rattle.vcd_amend.specs.AmendRunEnds.{AreReady};
@@ -12,6 +13,7 @@ ghost use Rattle.vcdedit_amend.specs.ProgramEnds as spec;
 ghost use Rattle.vcdedit_amend.specs.Sums.{HaveOneSum};
 
 use crate::amend_error::{AmendError, NO_MEMORY, NO_SCRIPT};
+use crate::capture_mark::{digest_of, head_of};
 use crate::command_line::{Options, command_line, options_of};
 use crate::part::run_part;
 use crate::passes::{CaptureFile, Pass, clear_progress, refuse_changed, refuse_replaced};
@@ -28,6 +30,7 @@ use vcd_core::{FromBytes, FromRead, Sink, Source, ToBytes, ToWrite};
 use vcd_journal::DEPTH_LIMIT;
 use vcd_script::Summary;
 use vcd_shell::{DEFAULT_SCRIPT, OutputFault, Program, SafeFile, done_status, open_script};
+use vcd_text::MarkHead;
 
 /// How many bytes of replies are buffered before they are written.
 const BUFFER: usize = 65_536;
@@ -96,8 +99,16 @@ fn run_options<R: Runtime + AllocGlobal>(
         return run_part(rt, options);
     }
     let path = capture_path(options.input, options.capture)?;
+    if options.is_marked && options.output.is_none() {
+        return Err(AmendError::NothingToMark);
+    }
     let capture = CaptureFile::find(rt, path)?;
-    run_on_file(rt, capture, Some(capture), options)
+    if options.is_marked {
+        let found = digest_of(rt, capture)?;
+        let mark = Some(head_of(path, found.size, found.digest.as_str()));
+        return run_on_file(rt, capture, Some(capture), mark, options);
+    }
+    run_on_file(rt, capture, Some(capture), None, options)
 }
 
 /// The path of the capture, which is named once, and is not standard input.
@@ -120,14 +131,16 @@ pub fn run_on_file<R: Runtime + AllocGlobal>(
     rt: &R,
     capture: CaptureFile<'_>,
     guarded: Option<CaptureFile<'_>>,
+    mark: Option<MarkHead<'_>>,
     options: &Options<'_, '_>,
 ) -> Result<Summary, AmendError>
     requires depth_least { 1 ≤ options.now.depth }
     requires depth_most { options.now.depth ≤ DEPTH_LIMIT }
+    requires marked { is_some mark ≡ options.now.is_marked }
     ensures { IsOutcomeOnFile (options_in options.now) result }
 {
     let mut passes = capture.open_passes(rt)?;
-    let outcome = run_passes(rt, guarded, &mut passes, options);
+    let outcome = run_passes(rt, guarded, &mut passes, mark, options);
     clear_progress(&mut passes);
     outcome
 }
@@ -137,10 +150,12 @@ fn run_passes<'a, R: Runtime + AllocGlobal>(
     rt: &'a R,
     guarded: Option<CaptureFile<'_>>,
     passes: &mut Passes<Pass<'a, R>>,
+    mark: Option<MarkHead<'_>>,
     options: &Options<'_, '_>,
 ) -> Result<Summary, AmendError>
     requires depth_least { 1 ≤ options.now.depth }
     requires depth_most { options.now.depth ≤ DEPTH_LIMIT }
+    requires marked { is_some mark ≡ options.now.is_marked }
     requires passes_ready { AreReady ⟦<Pass<'a, R> as Source>⟧.has_failed passes.old }
     ensures { IsOutcomeOnFile (options_in options.now) result }
 {
@@ -155,23 +170,35 @@ fn run_passes<'a, R: Runtime + AllocGlobal>(
                 passes,
                 script,
                 remarks,
+                mark,
                 options.output,
                 options.depth,
             )
         }
         None => {
-            let script = &mut FromBytes::new(DEFAULT_SCRIPT);
+            let script = &mut FromBytes::new(script_without_path(options));
             run_inputs(
                 rt,
                 guarded,
                 passes,
                 script,
                 remarks,
+                mark,
                 options.output,
                 options.depth,
             )
         }
     }
+}
+
+/// The script without a path: none for a part, and else the default.
+fn script_without_path(options: &Options<'_, '_>) -> &'static [u8]
+    ensures { result.now ≡ spec.script_without_path (options_in options.now) }
+{
+    if options.ask_for_part() {
+        return b"";
+    }
+    DEFAULT_SCRIPT
 }
 
 /// Runs with a buffer for the replies to standard output.
@@ -181,6 +208,7 @@ fn run_inputs<R: Runtime + AllocGlobal, C: Source, S: Source, Q: Sink>(
     passes: &mut Passes<Summed<C>>,
     script: &mut S,
     remarks: &mut Q,
+    mark: Option<MarkHead<'_>>,
     output: Option<&str>,
     depth: u64,
 ) -> Result<Summary, AmendError>
@@ -189,7 +217,7 @@ fn run_inputs<R: Runtime + AllocGlobal, C: Source, S: Source, Q: Sink>(
     requires passes_ready { AreReady ⟦<Summed<C> as Source>⟧.has_failed passes.old }
     requires script_ready { S.has_failed script.old ≡ false }
     requires remarks_ready { Q.has_failed remarks.old ≡ false }
-    ensures { IsOutcomeOn (option_copied output.entry) result depth
+    ensures { IsOutcomeOn (option_copied output.entry) mark.entry result depth
         (device_end S.coming S.has_failed script.old script.new) }
 {
     let writer = io::writer(rt);
@@ -202,6 +230,7 @@ fn run_inputs<R: Runtime + AllocGlobal, C: Source, S: Source, Q: Sink>(
         script,
         &mut replies,
         remarks,
+        mark,
         output,
         depth,
     );
@@ -218,6 +247,7 @@ fn run_to_output<R: Runtime + AllocGlobal, C: Source, S: Source, P: Sink, Q: Sin
     script: &mut S,
     replies: &mut P,
     remarks: &mut Q,
+    mark: Option<MarkHead<'_>>,
     output: Option<&str>,
     depth: u64,
 ) -> Result<Summary, AmendError>
@@ -227,12 +257,14 @@ fn run_to_output<R: Runtime + AllocGlobal, C: Source, S: Source, P: Sink, Q: Sin
     requires script_ready { S.has_failed script.old ≡ false }
     requires replies_ready { P.has_failed replies.old ≡ false }
     requires remarks_ready { Q.has_failed remarks.old ≡ false }
-    ensures { IsOutcomeOn (option_copied output.entry) result depth
+    ensures { IsOutcomeOn (option_copied output.entry) mark.entry result depth
         (device_end S.coming S.has_failed script.old script.new) }
 {
     match output {
-        Some(path) => run_to_file(rt, guarded, passes, script, replies, remarks, path, depth),
-        None => run_without_file(rt, passes, script, replies, remarks, depth),
+        Some(path) => run_to_file(
+            rt, guarded, passes, script, replies, remarks, mark, path, depth,
+        ),
+        None => run_without_file(rt, passes, script, replies, remarks, mark, depth),
     }
 }
 
@@ -244,6 +276,7 @@ fn run_to_file<R: Runtime + AllocGlobal, C: Source, S: Source, P: Sink, Q: Sink>
     script: &mut S,
     replies: &mut P,
     remarks: &mut Q,
+    mark: Option<MarkHead<'_>>,
     path: &str,
     depth: u64,
 ) -> Result<Summary, AmendError>
@@ -253,12 +286,21 @@ fn run_to_file<R: Runtime + AllocGlobal, C: Source, S: Source, P: Sink, Q: Sink>
     requires script_ready { S.has_failed script.old ≡ false }
     requires replies_ready { P.has_failed replies.old ≡ false }
     requires remarks_ready { Q.has_failed remarks.old ≡ false }
-    ensures { IsOutcomeOn (Some path.now) result depth
+    ensures { IsOutcomeOn (Some path.now) mark.entry result depth
         (device_end S.coming S.has_failed script.old script.new) }
 {
     let mut file = SafeFile::begin(rt, path)?;
     let output = Some(&mut file);
-    let ended = amend_run(rt.alloc(), passes, script, replies, remarks, output, depth);
+    let ended = amend_run(
+        rt.alloc(),
+        passes,
+        script,
+        replies,
+        remarks,
+        mark,
+        output,
+        depth,
+    );
     let summary = ended?;
     refuse_changed(passes)?;
     // last, as another run may have put its output in the place of the capture
@@ -285,6 +327,7 @@ fn run_without_file<R: Runtime + AllocGlobal, C: Source, S: Source, P: Sink, Q: 
     script: &mut S,
     replies: &mut P,
     remarks: &mut Q,
+    mark: Option<MarkHead<'_>>,
     depth: u64,
 ) -> Result<Summary, AmendError>
     requires depth_least { 1 ≤ depth }
@@ -293,11 +336,20 @@ fn run_without_file<R: Runtime + AllocGlobal, C: Source, S: Source, P: Sink, Q: 
     requires script_ready { S.has_failed script.old ≡ false }
     requires replies_ready { P.has_failed replies.old ≡ false }
     requires remarks_ready { Q.has_failed remarks.old ≡ false }
-    ensures { IsOutcomeOn None result depth
+    ensures { IsOutcomeOn None mark.entry result depth
         (device_end S.coming S.has_failed script.old script.new) }
 {
     let output: Option<&mut ToBytes> = None;
-    let summary = amend_run(rt.alloc(), passes, script, replies, remarks, output, depth)?;
+    let summary = amend_run(
+        rt.alloc(),
+        passes,
+        script,
+        replies,
+        remarks,
+        mark,
+        output,
+        depth,
+    )?;
     refuse_changed(passes)?;
     Ok(summary)
 }

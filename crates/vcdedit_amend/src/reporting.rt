@@ -35,6 +35,7 @@ fn error_status(error: &AmendError) -> u8
     match error {
         AmendError::TwoCaptures | AmendError::NoCapture => 2,
         AmendError::NotAFile => 4,
+        AmendError::NothingToMark => 2,
         AmendError::Part(fault) => part_status(*fault),
         AmendError::Run(error) => run_status(error),
         AmendError::Output(fault) => vcd_shell::output_status(*fault),
@@ -70,6 +71,11 @@ fn report_error<W: Sink>(error: &AmendError, writer: &mut W)
         AmendError::NotAFile => vcd_shell::report(
             PROGRAM,
             b"NotAFile: the capture is no regular file, and so it can't be read several times",
+            writer,
+        ),
+        AmendError::NothingToMark => vcd_shell::report(
+            PROGRAM,
+            b"NothingToMark: --mark marks the output; name its file after -o",
             writer,
         ),
         AmendError::Part(fault) => report_part(*fault, writer),

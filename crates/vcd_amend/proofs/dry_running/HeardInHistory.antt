@@ -22,8 +22,11 @@ use Rattle.vcd_script.specs.SessionLines.{machine_after_line, machine_after_line
 use Rattle.vcd_script.specs.HollowRun.{waves_asked, origins_at, origins_asked, last_edits, last_capture}
 use Rattle.vcd_script.proofs.shared.LinesAndHistory.{answer_is, line_follows}
 use Rattle.vcd_script.proofs.shared.LinesAndHistory.{last_capture as run_capture}
+use Rattle.vcd_amend.specs.EditsInForce.{EditLines, no_lines, lines_after_command, lines_after_line, lines_after}
+use Rattle.vcd_amend.specs.EditsInForce.{lines_in_force}
 use Rattle.vcd_amend.specs.inside.dry_running.OriginHistory.{OriginNotes, notes_after_command}
-use Rattle.vcd_amend.specs.inside.dry_running.OriginHistory.{notes_before_edits, cut_of_note, ticks_of_cuts}
+use Rattle.vcd_amend.specs.inside.dry_running.OriginHistory.{cut_of_note, ticks_of_cuts}
+use Rattle.vcd_amend.specs.inside.dry_running.HeardLines.{HistoryNotes, noted_before_lines, noted_after_command}
 use Rattle.vcd_amend.specs.inside.dry_running.HeardLines.{origins_heard, notes_after_line, notes_after_lines}
 use Rattle.vcd_amend.specs.inside.dry_running.HeardLines.{origins_heard_in, marked}
 use Rattle.vcd_amend.proofs.dry_running.origin_history.NotesOfHistory.{notes_of, step_follows}
@@ -37,62 +40,72 @@ command_follows : (count : ℕ) (h : History) (parsed : Result Command LineError
 command_follows count h (Ok (commands.Step s)) = step_follows count h s
 command_follows count h parsed = refl
 
-unless_refused : (count : ℕ) (h : History) (refused : Bool) (parsed : Result Command LineError) →
-    (if refused then notes_of count h else notes_after_command (notes_of count h) parsed)
-    ≡ notes_of count (if refused then h else history_after_command h parsed)
-unless_refused count h true parsed = refl
-unless_refused count h false parsed = command_follows count h parsed
+-- the notes of a history, with these lines
+abbrev pub noted : ℕ → History → EditLines → HistoryNotes
+noted count h l = record { notes = notes_of count h; lines = l }
+
+unless_refused : (count : ℕ) (h : History) (l : EditLines) (line : List ℕ) (refused : Bool)
+    (parsed : Result Command LineError) →
+    (if refused then noted count h l else noted_after_command (noted count h l) line parsed)
+    ≡ noted count (if refused then h else history_after_command h parsed)
+    (if refused then l else lines_after_command l line parsed)
+unless_refused count h l line true parsed = refl
+unless_refused count h l line false parsed =
+    ap (λ (n : OriginNotes). record { notes = n; lines = lines_after_command l line parsed })
+    (command_follows count h parsed)
 
 module _ (c : Contents) (skipped : ℕ) where
   abbrev count : ℕ
   count = length c.signals
 
-  notes_follow : (h : History) (m : Machine) (line : List ℕ) → IsMachineOf c h m
-      → notes_after_line skipped (notes_of count h) m line ≡ notes_of count (history_after_line c skipped h line)
-  notes_follow h m line is =
+  notes_follow : (h : History) (l : EditLines) (m : Machine) (line : List ℕ) → IsMachineOf c h m
+      → notes_after_line skipped (noted count h l) m line
+      ≡ noted count (history_after_line c skipped h line) (lines_after_line c skipped h l line)
+  notes_follow h l m line is =
       let asked : command_of_line m.now line ≡ command_of_line (replay c h.edits) line =
       ap (λ (n : Machine). command_of_line n.now line) is.is in
-      (λ i. if is_err (answer_is c h m skipped line is i) then notes_of count h
-      else notes_after_command (notes_of count h) (asked i))
-      ∙ unless_refused count h (is_err (line_answer c skipped h line)) (command_of_line (replay c h.edits) line)
+      (λ i. if is_err (answer_is c h m skipped line is i) then noted count h l
+      else noted_after_command (noted count h l) line (asked i))
+      ∙ unless_refused count h l line (is_err (line_answer c skipped h line))
+      (command_of_line (replay c h.edits) line)
 
   -- what a line asks for after this history
   abbrev heard_after : History → List ℕ → List ℕ
   heard_after h line = origins_at (origins count h.edits) (waves_asked (command_of_line (replay c h.edits) line))
 
-  heard_follows : (h : History) (m : Machine) (line : List ℕ) → IsMachineOf c h m
-      → origins_heard (notes_of count h) m line ≡ heard_after h line
-  heard_follows h m line is =
+  heard_follows : (h : History) (l : EditLines) (m : Machine) (line : List ℕ) → IsMachineOf c h m
+      → origins_heard (noted count h l) m line ≡ heard_after h line
+  heard_follows h l m line is =
       ap (λ (n : Machine). origins_at (origins count h.edits) (waves_asked (command_of_line n.now line))) is.is
 
   -- ---- lines
 
-  pub all_notes_follow : (h : History) (m : Machine) (lines : List (List ℕ)) → IsMachineOf c h m →
-      notes_after_lines skipped (notes_of count h) m lines
-      ≡ notes_of count (fold (history_after_line c skipped) h lines)
-  unfolding notes_after_lines
-  all_notes_follow h m [] is = refl
-  all_notes_follow h m (line ∷ lines) is =
-      ap (λ (n : OriginNotes). notes_after_lines skipped n (machine_after_line m line) lines)
-      (notes_follow h m line is)
-      ∙ all_notes_follow (history_after_line c skipped h line) (machine_after_line m line) lines
-      (line_follows c h m skipped line is)
+  pub all_notes_follow : (h : History) (l : EditLines) (m : Machine) (lines : List (List ℕ)) → IsMachineOf c h m →
+      notes_after_lines skipped (noted count h l) m lines
+      ≡ noted count (fold (history_after_line c skipped) h lines) (lines_after c skipped h l lines)
+  unfolding notes_after_lines lines_after
+  all_notes_follow h l m [] is = refl
+  all_notes_follow h l m (line ∷ lines) is =
+      ap (λ (n : HistoryNotes). notes_after_lines skipped n (machine_after_line m line) lines)
+      (notes_follow h l m line is)
+      ∙ all_notes_follow (history_after_line c skipped h line) (lines_after_line c skipped h l line)
+      (machine_after_line m line) lines (line_follows c h m skipped line is)
 
   -- what lines ask for, the first of them after this history
   unfoldable heard_from : History → List (List ℕ) → List ℕ
   heard_from h [] = []
   heard_from h (line ∷ lines) = heard_after h line ++ heard_from (history_after_line c skipped h line) lines
 
-  all_heard_follow : (h : History) (m : Machine) (lines : List (List ℕ)) → IsMachineOf c h m
-      → origins_heard_in skipped (notes_of count h) m lines ≡ heard_from h lines
+  all_heard_follow : (h : History) (l : EditLines) (m : Machine) (lines : List (List ℕ)) → IsMachineOf c h m
+      → origins_heard_in skipped (noted count h l) m lines ≡ heard_from h lines
   unfolding origins_heard_in heard_from
-  all_heard_follow h m [] is = refl
-  all_heard_follow h m (line ∷ lines) is =
-      let rest = ap (λ (n : OriginNotes). origins_heard_in skipped n (machine_after_line m line) lines)
-      (notes_follow h m line is)
-      ∙ all_heard_follow (history_after_line c skipped h line) (machine_after_line m line) lines
-      (line_follows c h m skipped line is) in
-      λ i. heard_follows h m line is i ++ rest i
+  all_heard_follow h l m [] is = refl
+  all_heard_follow h l m (line ∷ lines) is =
+      let rest = ap (λ (n : HistoryNotes). origins_heard_in skipped n (machine_after_line m line) lines)
+      (notes_follow h l m line is)
+      ∙ all_heard_follow (history_after_line c skipped h line) (lines_after_line c skipped h l line)
+      (machine_after_line m line) lines (line_follows c h m skipped line is) in
+      λ i. heard_follows h l m line is i ++ rest i
 
   -- the same, each line with the history after the lines before it
   heard_at : (h : History) (before lines : List (List ℕ)) →
@@ -116,39 +129,44 @@ module _ (c : Contents) (skipped : ℕ) where
       λ i. first i ++ rest i
 
   pub heard_is_asked : (depth : ℕ) (lines : List (List ℕ)) →
-      origins_heard_in skipped (notes_of count (initial_history depth)) (initial_machine c depth) lines
+      origins_heard_in skipped (noted count (initial_history depth) no_lines) (initial_machine c depth) lines
       ≡ origins_asked c skipped depth lines
   heard_is_asked depth lines =
-      all_heard_follow (initial_history depth) (initial_machine c depth) lines (first_follows c depth)
+      all_heard_follow (initial_history depth) no_lines (initial_machine c depth) lines (first_follows c depth)
       ∙ sym (heard_at (initial_history depth) [] lines)
 
 -- ---- a dry run
 
 -- what is found after lines
-pub record IsFound (c : Contents) (skipped depth : ℕ) (lines : List (List ℕ)) (now : Machine) (notes : OriginNotes)
+pub record IsFound (c : Contents) (skipped depth : ℕ) (lines : List (List ℕ)) (now : Machine) (notes : HistoryNotes)
     (heard : List Bool) : Type 0 where
   pub heard_at : (k : ℕ) → k < length c.signals
       → get_or heard k false ≡ list_any (nat_eq k) (origins_asked c skipped depth lines)
   pub one_each : length heard ≡ length c.signals
-  pub left : notes.origins ≡ origins (length c.signals) (last_edits c skipped depth lines)
-  pub cuts_are : filter_map cut_of_note (reverse notes.in_force) ≡ ticks_of_cuts (last_edits c skipped depth lines)
+  pub left : notes.notes.origins ≡ origins (length c.signals) (last_edits c skipped depth lines)
+  pub lines_are : reverse notes.lines.in_force ≡ lines_in_force c skipped depth lines
+  pub cuts_are : filter_map cut_of_note (reverse notes.notes.in_force)
+      ≡ ticks_of_cuts (last_edits c skipped depth lines)
   pub last : now.now ≡ last_capture c skipped depth lines
 
 pub found_in_lines : (c : Contents) (skipped depth : ℕ) (lines : List (List ℕ)) (old now : Machine)
-    (before notes : OriginNotes) (marks heard : List Bool) → old ≡ initial_machine c depth
-    → before ≡ notes_before_edits (length c.signals) → marks ≡ replicate (length c.signals) false
+    (before notes : HistoryNotes) (marks heard : List Bool) → old ≡ initial_machine c depth
+    → before ≡ noted_before_lines (length c.signals) → marks ≡ replicate (length c.signals) false
     → machine_after_lines old lines ≡ now → notes_after_lines skipped before old lines ≡ notes
     → marked marks (origins_heard_in skipped before old lines) ≡ heard
     → IsFound c skipped depth lines now notes heard
-found_in_lines c skipped depth lines old now before notes marks heard first none silent machine noted hears =
+found_in_lines c skipped depth lines old now before notes marks heard first none silent machine was_noted hears =
     let n : ℕ = length c.signals in
     let h : History = initial_history depth in
     let last : History = history_at c skipped depth lines (length lines) in
-    let start : before ≡ notes_of n h = none ∙ first_notes n depth in
-    let noted_last : notes ≡ notes_of n last = sym noted
+    let made : EditLines = lines_after c skipped h no_lines lines in
+    let start : before ≡ noted n h no_lines =
+    none ∙ ap (λ (o : OriginNotes). record { notes = o; lines = no_lines }) (first_notes n depth) in
+    let noted_last : notes ≡ noted n last made = sym was_noted
     ∙ (λ i. notes_after_lines skipped (start i) (first i) lines)
-    ∙ all_notes_follow c skipped h (initial_machine c depth) lines (first_follows c depth)
-    ∙ ap (λ (ls : List (List ℕ)). notes_of n (fold (history_after_line c skipped) h ls)) (sym (take-length lines)) in
+    ∙ all_notes_follow c skipped h no_lines (initial_machine c depth) lines (first_follows c depth)
+    ∙ ap (λ (ls : List (List ℕ)). noted n (fold (history_after_line c skipped) h ls) made)
+    (sym (take-length lines)) in
     let asked : heard ≡ marked (replicate n false) (origins_asked c skipped depth lines) = sym hears
     ∙ (λ i. marked (silent i) (origins_heard_in skipped (start i) (first i) lines))
     ∙ ap (marked (replicate n false)) (heard_is_asked c skipped depth lines) in
@@ -157,8 +175,9 @@ found_in_lines c skipped depth lines old now before notes marks heard first none
           ∙ marked_alone n (origins_asked c skipped depth lines) k less;
       one_each = ap (λ (l : List Bool). length l) asked
           ∙ length-marked (replicate n false) (origins_asked c skipped depth lines) ∙ length-replicate n false;
-      left = ap (λ (o : OriginNotes). o.origins) noted_last;
-      cuts_are = ap (λ (o : OriginNotes). filter_map cut_of_note (reverse o.in_force)) noted_last
+      left = ap (λ (o : HistoryNotes). o.notes.origins) noted_last;
+      lines_are = ap (λ (o : HistoryNotes). reverse o.lines.in_force) noted_last;
+      cuts_are = ap (λ (o : HistoryNotes). filter_map cut_of_note (reverse o.notes.in_force)) noted_last
           ∙ cuts_are_noted n last.edits;
       last = ap (λ (m : Machine). m.now) (sym machine ∙ ap (λ (m : Machine). machine_after_lines m lines) first)
           ∙ sym (run_capture c skipped depth lines);

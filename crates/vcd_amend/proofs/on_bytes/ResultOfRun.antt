@@ -1,5 +1,5 @@
 -- Bytes in memory amended by a script: what is given follows from how the run ended.
-use Rattle.std.proofs.Common.{◌≡◌, Ok, Err, ℕ, zero, suc, List, [], Option, Some, false, true}
+use Rattle.std.proofs.Common.{◌≡◌, Ok, Err, ℕ, zero, suc, List, [], Option, Some, None, false, true}
 use Rattle.std.proofs.Common.{sym, ap, subst, ◌∙◌, ◌<◌, ◌≤◌, inl, inr, take, length}
 use Rattle.std.specs.Prelude.{◌⊎◌}
 use Rattle.std.specs.List.{concat}
@@ -18,9 +18,27 @@ use Rattle.vcd_script.specs.Run.{RunOutcome, IsRun}
 use Rattle.vcd_amend.specs.declared.running.AmendRunError.{AmendRunError}
 use Rattle.vcd_amend.specs.declared.running.AmendRunError.TheVariants as errors
 use Rattle.vcd_amend.specs.AmendRun.{IsAmendRun}
+use Rattle.vcd_amend.specs.MarkedRun.{MarkedRunEnds}
 use Rattle.vcd_amend.specs.AmendRunEnds.{PassEnds, AllShow, FailsIn, TakesSkippedName, AmendRunEnds}
 use Rattle.vcd_amend.specs.AmendOnBytes.{IsEditedFile, IsRefusedLongFile, has_fault, too_large, AmendFails}
 use Rattle.vcd_amend.proofs.on_bytes.EditedFile.{run_of_amend_run}
+
+-- without a mark a run ends as it is
+pub unmarked_ends : (depth : ℕ) (passes : PassEnds) (lines replies out : DeviceEnd) (summary : Summary)
+    → MarkedRunEnds depth None passes lines replies (Some out) (Ok summary)
+    → AmendRunEnds depth passes lines replies (Some out) (Ok summary)
+unfolding AmendRunEnds
+unmarked_ends depth passes lines replies out summary ends = (
+  ends.replies_ready,
+  (ends.out_ready, ends.possible),
+  ends.short,
+  λ file script shows is_script.
+      let run = ends.run file script shows is_script in (
+        run.0,
+        subst (λ (f : List ℕ). IsAmendRun f script depth run.0) run.1.is_marked run.1.run,
+        (run.2.0, run.2.1, run.2.2),
+      ),
+)
 
 -- a refused file of which the source has not failed
 refused_file : (file : List ℕ) (left : Option (List ℕ)) (e : ReadError)

@@ -44,10 +44,14 @@ use Rattle.vcd_amend.specs.FileParts.{HasOutline, HasOtherOutline, HearFails}
 use Rattle.vcd_amend.specs.AmendRunEnds.{PassEnds, AllShow, FailsIn, ForAmendRun, IsShortFile, AmendRunEnds}
 use Rattle.vcd_amend.specs.inside.Running.{RefusesPlan}
 use Rattle.vcd_amend.specs.inside.Running.{IsPlanned, IsEdited, EndsBeforeReplies}
-use Rattle.vcd_amend.specs.inside.Running.{EndsBeforeCopy}
+use Rattle.vcd_amend.specs.inside.Running.{EndsBeforeCopy, HasEditLines}
+use Rattle.vcd_amend.specs.MarkedRun.{MarkedRunEnds, mark_with}
+use Rattle.vcd_text.specs.Marks.{IsMarkedFile}
+use Rattle.vcd_text.specs.declared.marking.head.MarkHead.{MarkHead}
 use Rattle.vcd_amend.specs.inside.Running.{StopsInRun, error_of_hearing, error_of_copy}
 use Rattle.vcd_amend.proofs.running.PlannedRun.{sizes_agree, names_of_file}
-use Rattle.vcd_amend.proofs.running.CarriedOut.{is_run, is_written, same_replies}
+use Rattle.vcd_amend.proofs.running.CarriedOut.{is_run, same_replies}
+use Rattle.vcd_amend.proofs.running.MarkedRun.{marked_is_written}
 
 -- ---- after the last reply
 
@@ -87,40 +91,43 @@ module _ (depth : ℕ) (passes : PassEnds) (script replies : DeviceEnd) (declare
         ),
   )
 
-  -- the end with one
-  pub ends_with_output : (out : DeviceEnd) → AreEdited true → replies.has_failed ≡ false → out.has_failed ≡ false
+  -- the end with one, and with a mark if one is asked for
+  pub ends_with_output : (head : Option MarkHead) (edits : List (List ℕ)) (out : DeviceEnd) → AreEdited true
+      → ((file lines : List ℕ) → (passes.declarations.before ≡ Some file) × (passes.outline.before ≡ Some file)
+      × (passes.changes.before ≡ Some file) → script.before ≡ Some lines → HasEditLines file lines depth edits)
+      → replies.has_failed ≡ false → out.has_failed ≡ false
       → IfSome passes.outline.before (λ file. length file ≤ LONG_FILE_LIMIT)
       → IfSome passes.copy.before (λ file. (a : Amendment)
       × IsAmendmentFor declared (capture_after_cuts first cs).signals ks last.signals a
-      × (text : List ℕ) × IsAmendedAfterCuts SIGNAL_LIMIT (is_cut_by cs) a file text
+      × (marked : List ℕ) × IsMarkedFile SIGNAL_LIMIT (mark_with head edits) file marked
+      × (text : List ℕ) × IsAmendedAfterCuts SIGNAL_LIMIT (is_cut_by cs) a marked text
       × Appends out.before out.after text)
-      → AmendRunEnds depth passes script replies (Some out) (Ok (record { refused = refused }))
-  unfolding AmendRunEnds
-  ends_with_output out edited ready out_ready short copied = (
-    ready,
-    (
-      out_ready,
-      λ file lines shows script_shows.
-          let one = edited file lines (shows.0, shows.1, shows.2) script_shows in
-          let s : ParseState = one.means.state in
-          let all : List (List ℕ) = script_lines lines in (
-            s,
-            one.means.accepted,
-            λ taken. false≢true (sym (names_of_file file all depth declared one.skipped one.whole ks false one.means
-                one.origins_are (one.variables s one.means.accepted) (one.free refl)) ∙ taken),
-          ),
-    ),
-    short_file short,
-    λ file lines shows script_shows.
+      → MarkedRunEnds depth head passes script replies (Some out) (Ok (record { refused = refused }))
+  ends_with_output head edits out edited edits_are ready out_ready short copied = record {
+    replies_ready = ready;
+    out_ready = out_ready;
+    possible = λ file lines shows script_shows.
+        let one = edited file lines (shows.0, shows.1, shows.2) script_shows in
+        let s : ParseState = one.means.state in
+        let all : List (List ℕ) = script_lines lines in (
+          s,
+          one.means.accepted,
+          λ taken. false≢true (sym (names_of_file file all depth declared one.skipped one.whole ks false one.means
+              one.origins_are (one.variables s one.means.accepted) (one.free refl)) ∙ taken),
+        );
+    short = short_file short;
+    run = λ file lines shows script_shows.
         let one = edited file lines (shows.0, shows.1, shows.2) script_shows in
         let here = subst (λ coming. IfSome coming (λ f. (a : Amendment)
         × IsAmendmentFor declared (capture_after_cuts first cs).signals ks last.signals a
-        × (text : List ℕ) × IsAmendedAfterCuts SIGNAL_LIMIT (is_cut_by cs) a f text
+        × (marked : List ℕ) × IsMarkedFile SIGNAL_LIMIT (mark_with head edits) f marked
+        × (text : List ℕ) × IsAmendedAfterCuts SIGNAL_LIMIT (is_cut_by cs) a marked text
         × Appends out.before out.after text)) shows.3 copied in
-        let run = is_written file lines here.2 depth (Appends replies.before replies.after) declared first ks cs last
-        refused here.0 one here.1 here.3 in
-        (run.0, run.1, (run.2, subst (Appends out.before out.after) run.3 here.4, run.4)),
-  )
+        let run = marked_is_written file lines here.2 depth (Appends replies.before replies.after) declared first ks cs
+        last refused here.4 head edits here.0 one (edits_are file lines (shows.0, shows.1, shows.2) script_shows)
+        here.1 here.3 here.5 in
+        (run.0, run.1, (run.2, subst (Appends out.before out.after) run.3 here.6, run.4));
+  }
 
   -- all replies are written
   replied : AreEdited true → ForAmendRun depth passes script replies None
@@ -311,8 +318,9 @@ at_error (Ok v) error P gives holds = tt
 at_error (Err e) error P gives holds = rw gives holds
 
 -- a run that an error ended
-pub ends_with : (r : Result Summary AmendRunError) (error : AmendRunError) (depth : ℕ) (passes : PassEnds)
-    (script replies : DeviceEnd) (output : Option DeviceEnd) → IsErrAnd r (λ e. e ≡ error)
-    → AmendRunEnds depth passes script replies output (Err error) → AmendRunEnds depth passes script replies output r
-ends_with (Ok summary) error depth passes script replies output gives ends = absurd gives
-ends_with (Err e) error depth passes script replies output gives ends = rw gives ends
+pub ends_with : (r : Result Summary AmendRunError) (error : AmendRunError) (depth : ℕ) (head : Option MarkHead)
+    (passes : PassEnds) (script replies out : DeviceEnd) → IsErrAnd r (λ e. e ≡ error)
+    → AmendRunEnds depth passes script replies (Some out) (Err error)
+    → MarkedRunEnds depth head passes script replies (Some out) r
+ends_with (Ok summary) error depth head passes script replies out gives ends = absurd gives
+ends_with (Err e) error depth head passes script replies out gives ends = rw gives ends

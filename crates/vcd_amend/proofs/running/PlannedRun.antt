@@ -39,7 +39,7 @@ use Rattle.vcd_script.proofs.shared.FittingCuts.{cuts_of_run_fit}
 
 -- ---- before the first reply
 
-outline_twice : (c : Contents) → outline (outline c) ≡ outline c
+pub outline_twice : (c : Contents) → outline (outline c) ≡ outline c
 outline_twice c = ap (λ (ss : List SignalContents). record c { signals = ss }) (twice c.signals)
   where
     twice : (ss : List SignalContents) → map without_changes (map without_changes ss) ≡ map without_changes ss

@@ -22,6 +22,7 @@ use Rattle.vcd_script.specs.HollowRun.{last_edits, last_capture, origins_asked, 
 use Rattle.vcd_amend.specs.declared.cut_ticks.CutTicks.{CutTicks}
 use Rattle.vcd_amend.specs.inside.dry_running.OriginHistory.{ticks_of_cuts}
 use Rattle.vcd_amend.specs.NewNames.{takes_skipped_name}
+use Rattle.vcd_amend.specs.EditsInForce.{lines_in_force}
 use Rattle.vcd_amend.specs.AmendRunEnds.{PassEnds, AmendRunEnds}
 use Rattle.vcd_amend.specs.declared.running.Passes.{Passes}
 use Rattle.vcd_amend.specs.declared.running.AmendRunError.{AmendRunError}
@@ -46,6 +47,13 @@ error_of_hearing hear_errors.Changed = errors.CaptureChanged
 abbrev pub error_of_copy : CopyError → AmendRunError
 error_of_copy (copy_errors.Read e) = errors.Run (run_errors.Capture e)
 error_of_copy (copy_errors.Write e) = errors.Run (run_errors.Write e)
+
+-- these are the lines whose edits are in force after these lines on what the file means
+abbrev pub HasEditLines : (file lines : List ℕ) → (depth : ℕ) → (edit_lines : List (List ℕ))
+    → Type 0
+HasEditLines file lines depth edit_lines = (c : Contents) (skipped : ℕ)
+    → FileMeans SIGNAL_LIMIT file c skipped
+    → edit_lines ≡ lines_in_force c skipped depth (script_lines lines)
 
 -- the signals of the later capture come from those of the first at these origins, but for the last
 pub record IsLaterCapture (first : Contents) (ks : List ℕ) (last : Contents) : Type 0 where

@@ -134,22 +134,26 @@ refused_same (Ok (commands.Step (steps.Edit e))) x y skipped undoable redoable s
 refused_same parsed x y skipped undoable redoable same = refl
 
 module _ (c d : Contents) (same : outline c ≡ outline d) (skipped : ℕ) where
-  command_same : (h : History) (line : List ℕ)
+  pub command_same : (h : History) (line : List ℕ)
       → command_of_line (replay c h.edits) line ≡ command_of_line (replay d h.edits) line
   command_same h line =
       command_is_of_outline (replay c h.edits) (replay d h.edits) line (replay_keeps_outlines c d h.edits same)
 
-  next_same : (h : History) (line : List ℕ) → history_after_line c skipped h line ≡ history_after_line d skipped h line
+  -- whether a line is refused after a history
+  pub answer_same : (h : History) (line : List ℕ)
+      → is_err (line_answer c skipped h line) ≡ is_err (line_answer d skipped h line)
   unfolding line_reply
-  next_same h line =
+  answer_same h line =
       let x : Contents = replay c h.edits in
       let y : Contents = replay d h.edits in
-      let refused : is_err (line_answer c skipped h line) ≡ is_err (line_answer d skipped h line) =
       ap (λ (parsed : Result Command LineError). is_err (command_reply parsed x skipped h.undoable (length h.undone)))
       (command_same h line)
       ∙ refused_same (command_of_line y line) x y skipped h.undoable (length h.undone)
-      (replay_keeps_outlines c d h.edits same) in
-      λ i. if refused i then h else history_after_command h (command_same h line i)
+      (replay_keeps_outlines c d h.edits same)
+
+  pub next_same : (h : History) (line : List ℕ)
+      → history_after_line c skipped h line ≡ history_after_line d skipped h line
+  next_same h line = λ i. if answer_same h line i then h else history_after_command h (command_same h line i)
 
   all_same : (h : History) (lines : List (List ℕ))
       → fold (history_after_line c skipped) h lines ≡ fold (history_after_line d skipped) h lines
@@ -261,9 +265,9 @@ module _ (silent : ℕ → Bool) (c : Contents) (skipped depth : ℕ) (lines : L
     pub histories : (n : ℕ) → history_at d skipped depth lines n ≡ at_line n
     histories n = history_is_of_outline d c skipped depth lines n (hollow_outline silent c)
 
-    answer_same : (n : ℕ) (line : List ℕ) → IsHeard n line
+    heard_answer_same : (n : ℕ) (line : List ℕ) → IsHeard n line
         → line_answer d skipped (history_at d skipped depth lines n) line ≡ line_answer c skipped (at_line n) line
-    answer_same n line asked =
+    heard_answer_same n line asked =
         let h : History = at_line n in
         ap (λ (g : History). line_answer d skipped g line) (histories n)
         ∙ ap (λ (x : Contents). line_reply line x skipped h.undoable (length h.undone))
@@ -278,7 +282,7 @@ module _ (silent : ℕ → Bool) (c : Contents) (skipped depth : ℕ) (lines : L
         record {
           same_answers = map_same (λ (p : ℕ × List ℕ). IsHeard p.0 p.1)
               (λ p. line_answer d skipped (history_at d skipped depth lines p.0) p.1)
-              (λ p. line_answer c skipped (at_line p.0) p.1) (λ p asked. answer_same p.0 p.1 asked)
+              (λ p. line_answer c skipped (at_line p.0) p.1) (λ p asked. heard_answer_same p.0 p.1 asked)
               (enumerate_from 0 lines) heard;
           same_histories = histories;
           hollow_capture = ap (λ (h : History). replay d h.edits) (histories (length lines))

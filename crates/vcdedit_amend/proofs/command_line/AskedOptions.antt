@@ -13,13 +13,14 @@ use Rattle.vcdedit_amend.specs.CommandLine.{asked_options, is_given, option_app,
 
 -- the options that the getters read
 pub read_options : (m : ArgMatches) (words : List Text) (input capture script output : Option (Bor Text)) (depth : ℕ)
-    (quiet : Bool) (keep remove : Option (Bor (List (Bor Text)))) (from to : Option (Bor Text))
+    (marked quiet : Bool) (keep remove : Option (Bor (List (Bor Text)))) (from to : Option (Bor Text))
     → rows_of (found_of m) ≡ matches_of option_app words
     → option_map (λ s. s.now) input ≡ first_value (found_of m) (codes "input-file")
     → option_map (λ s. s.now) capture ≡ first_value (found_of m) (codes "capture")
     → option_map (λ s. s.now) script ≡ first_value (found_of m) (codes "script")
     → option_map (λ s. s.now) output ≡ first_value (found_of m) (codes "output-file")
     → depth ≡ depth_asked (one_text (found_of m) (codes "depth"))
+    → marked ≡ is_given (first_value (found_of m) (codes "mark"))
     → quiet ≡ is_given (first_value (found_of m) (codes "quiet"))
     → texts keep ≡ option_map raw_values (matched_of (found_of m) (codes "keep"))
     → texts remove ≡ option_map raw_values (matched_of (found_of m) (codes "remove"))
@@ -31,14 +32,15 @@ pub read_options : (m : ArgMatches) (words : List Text) (input capture script ou
       script = script;
       output = output;
       depth = depth;
+      is_marked = marked;
       is_quiet = quiet;
       keep = keep;
       remove = remove;
       from = from;
       to = to;
     }) ≡ asked_options words
-read_options m words input capture script output depth quiet keep remove from to rows is_input is_capture is_script
-    is_output is_depth is_quiet is_keep is_remove is_from is_to =
+read_options m words input capture script output depth marked quiet keep remove from to rows is_input is_capture
+    is_script is_output is_depth is_marked is_quiet is_keep is_remove is_from is_to =
     let of_rows : (id : Text) → first_value (found_of m) id ≡ first_of id (matches_of option_app words) =
     λ id. first_value-rows (found_of m) id ∙ ap (first_of id) rows in
     let text : one_text (found_of m) (codes "depth") ≡ one_of (codes "depth") (matches_of option_app words) =
@@ -47,6 +49,7 @@ read_options m words input capture script output depth quiet keep remove from to
     let capture_is = is_capture ∙ of_rows (codes "capture") in
     let script_is = is_script ∙ of_rows (codes "script") in
     let output_is = is_output ∙ of_rows (codes "output-file") in
+    let marked_is = is_marked ∙ ap is_given (of_rows (codes "mark")) in
     let quiet_is = is_quiet ∙ ap is_given (of_rows (codes "quiet")) in
     let depth_is = is_depth ∙ ap depth_asked text in
     let all_of_rows : (id : Text) → option_map raw_values (matched_of (found_of m) id)
@@ -62,6 +65,7 @@ read_options m words input capture script output depth quiet keep remove from to
       script = script_is i;
       output = output_is i;
       depth = depth_is i;
+      is_marked = marked_is i;
       is_quiet = quiet_is i;
       keep = keep_is i;
       remove = remove_is i;

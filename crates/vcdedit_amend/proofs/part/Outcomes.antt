@@ -1,13 +1,13 @@
 -- The outcomes of a request, by what becomes of its part.
 use Rattle.std.proofs.Common.{◌≡◌, ◌⊎◌, inl, inr, refl}
-use Rattle.std.specs.Prelude.{Result, Ok, Err, IsErrAnd, IsSome}
+use Rattle.std.specs.Prelude.{Result, Ok, Err, IsErrAnd}
 use Rattle.vcd_core.specs.Devices.{DeviceEnd}
 use Rattle.vcd_script.specs.declared.running.run_error.Summary.{Summary}
 use Rattle.vcd_part.specs.declared.request.Request.{Request}
 use Rattle.vcdedit_amend.specs.declared.amend_error.AmendError.{AmendError}
 use Rattle.vcdedit_amend.specs.CommandLine.{AskedOptions}
 use Rattle.vcdedit_amend.specs.ProgramEnds.{IsOutcomeOnFile, not_read}
-use Rattle.vcdedit_amend.specs.PartOutcome.{IsTaken, IsOutcomeOfRequest, IsPartFileFault, no_part_file}
+use Rattle.vcdedit_amend.specs.PartOutcome.{IsTaken, IsHeld, IsOutcomeOfRequest, IsPartFileFault, no_part_file}
 
 -- an error that is handed on
 pub ends_with : (o : AskedOptions) (r : Request) (outcome : Result Summary AmendError) (e : AmendError)
@@ -39,8 +39,8 @@ refused_on_file o r capture out error e (inr none) taken = no_file o r e (inl no
 
 -- the script is carried out on the part
 pub carried_out : (o : AskedOptions) (r : Request) (capture out : DeviceEnd) (done : Unit)
-    (outcome : Result Summary AmendError) → IsTaken r capture out (Ok done) → IsSome o.script
+    (outcome : Result Summary AmendError) → IsTaken r capture out (Ok done) → IsHeld o
     → (outcome ≡ Err no_part_file) ⊎ IsOutcomeOnFile o outcome → IsOutcomeOfRequest o r outcome
-carried_out o r capture out done outcome taken script (inl none) = inl (no_part_file, inr (inl (inl refl)), none)
-carried_out o r capture out done outcome taken script (inr on_file) =
-    inr (inr (capture, out, done, taken, inr (inr (script, on_file))))
+carried_out o r capture out done outcome taken held (inl none) = inl (no_part_file, inr (inl (inl refl)), none)
+carried_out o r capture out done outcome taken held (inr on_file) =
+    inr (inr (capture, out, done, taken, inr (inr (held, on_file))))

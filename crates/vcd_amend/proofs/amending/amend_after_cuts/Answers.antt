@@ -1,60 +1,18 @@
-use Rattle.std.proofs.Common.{◌≡◌, ◌∙◌, refl, sym, ap, subst, true, List, [], ◌∷◌, ℕ, length, arith}
-use Rattle.std.proofs.lemmas.Bool.Decides.{nat_tests}
+-- Without a mark the marked file is the file.
+use Rattle.std.proofs.Common.{List, ℕ, subst}
 use Rattle.std.proofs.lemmas.Option.{IfSome_then}
 use Rattle.std.proofs.lemmas.Result.{on_ok_weaker}
-use Rattle.vcd_text.specs.Copied.{IsCopy}
-use Rattle.vcd_text.specs.Grammar.{initial_state}
-use Rattle.vcd_text.specs.Pieces.{Piece}
-use Rattle.vcd_amend.specs.Amendment.{Amendment}
-use Rattle.vcd_amend.specs.AmendedText.{amended_text}
-use Rattle.vcd_amend.specs.AmendedCopy.{IsAmended, amendment_rules}
 use Rattle.vcd_amend.specs.AmendmentContents.{amendment_contents}
-use Rattle.vcd_amend.specs.RetimedCopy.{IsAmendedAfterCuts, retimed_rules, is_cut_by}
-use Rattle.vcd_amend.specs.declared.amendment.Amendment.{Amendment as HeldAmendment}
-use Rattle.vcd_amend.specs.declared.cut_ticks.CutTicks.{CutTicks}
-use Rattle.vcd_amend.proofs.amending.CutTexts.{copy_is_amended_after_cuts}
-use Rattle.vcd_amend.proofs.laws.EditedFiles.{pieces_stay}
+use Rattle.vcd_amend.specs.RetimedCopy.{IsAmendedAfterCuts, is_cut_by}
 use Rattle.vcd_amend.proofs.amending.amend_after_cuts.Goals as goal
 
-without_cuts : (limit : ℕ) (cuts : List CutTicks) (a : Amendment) (file text : List ℕ) → length cuts ≡ 0
-    → IsAmended limit a file text → IsAmendedAfterCuts limit (is_cut_by cuts) a file text
-unfolding is_cut_by
-without_cuts limit [] a file text none is = record {
-  pieces = is.pieces;
-  tail = is.tail;
-  cut = is.cut;
-  allowed = is.allowed;
-  in_body = is.in_body;
-  is = is.is ∙ ap (λ (ps : List Piece). amended_text a true (initial_state limit) ps is.tail)
-      (sym (pieces_stay (initial_state limit) is.pieces));
-}
-without_cuts limit (cut ∷ cuts) a file text none is = absurd (cc)
-
-pub returns-then-is_empty-clause-amended : goal.returns-then-is_empty-clause-amended
-returns-then-is_empty-clause-amended g c = on_ok_weaker c.amend.result
-    (λ copied. IfSome_then (g.R.Source.coming c.args.reader.now) copied (λ file is.
-    let (small, text, amended, appends) = is in (
-      small,
-      text,
-      without_cuts c.args.limit c.args.cuts.now (amendment_contents c.args.amendment.now) file text
-          (grind (arith, c.if-is_empty.true, c.is_empty.ensures, nat_tests)) amended,
-      appends,
-    ))) c.amend.ensures.amended
-
 pub returns-clause-amended : goal.returns-clause-amended
-returns-clause-amended g c = on_ok_weaker c.copy.result
-    (λ copied. IfSome_then (g.R.Source.coming c.args.reader.now) (copied refl) (λ file is.
-    let (small, text, copy, appends) = is in (
+returns-clause-amended g c = on_ok_weaker c.amend_marked.result
+    (λ given. IfSome_then (g.R.Source.coming c.args.reader.now) given (λ file is.
+    let (small, marked, same, text, amended, appends) = is in (
       small,
       text,
-      copy_is_amended_after_cuts c.args.limit (is_cut_by c.args.cuts.now) (amendment_contents c.args.amendment.now)
-          file text
-          (subst (λ (cs : List CutTicks). IsCopy c.args.limit (retimed_rules (is_cut_by cs)
-          (amendment_rules (amendment_contents c.args.amendment.now) 0)) file text) c.in_ok-amender.ensures.2
-          (subst (λ (a : HeldAmendment). IsCopy c.args.limit (retimed_rules (is_cut_by c.in_ok-amender.amender.walk)
-          (amendment_rules (amendment_contents a) 0)) file text) c.in_ok-amender.ensures.1 copy)),
+      subst (λ (f : List ℕ). IsAmendedAfterCuts c.args.limit (is_cut_by c.args.cuts.now)
+          (amendment_contents c.args.amendment.now) f text) same amended,
       appends,
-    ))) c.copy.ensures.copied
-
-pub returns-clause-ended : goal.returns-clause-ended
-returns-clause-ended g c = on_ok_weaker c.copy.result (λ ended. ended refl) c.copy.ensures.ended
+    ))) c.amend_marked.ensures.amended

@@ -20,6 +20,7 @@ returns-in-Ok-cuts c =
       one_each = ap (λ (l : List Bool). length l) heard ∙ found.one_each;
       origins = c.found.ensures.origins ∙ found.left;
       cuts = ap (λ v. v.items) c.found.ensures.cuts ∙ c.in-Ok-cuts.ensures ∙ found.cuts_are;
+      lines = c.found.ensures.lines ∙ found.lines_are;
       last = c.found.ensures.last ∙ found.last;
       line = tt;
     }

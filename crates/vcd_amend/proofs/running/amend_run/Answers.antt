@@ -8,8 +8,8 @@ use Rattle.vcd_amend.proofs.running.amend_run.Goals as goal
 
 pub returns-in_err-edited-in-Some-clause-ends : goal.returns-in_err-edited-in-Some-clause-ends
 returns-in_err-edited-in-Some-clause-ends g c =
-    rw (c.in-Some.is) (ends_with c.from_residual.result c.in_err-edited-in-Some.field-0.0 c.args.depth _ _ _ (Some _)
-    c.from_residual.ensures.1
+    rw (c.in-Some.is) (ends_with c.from_residual.result c.in_err-edited-in-Some.field-0.0 c.args.depth c.args.mark
+    _ _ _ _ c.from_residual.ensures.1
     (c.in_err-edited-in-Some.ensures.fails (Some _) refl (refl, c.requires.out_ready c.in-Some.out c.in-Some.is)))
 
 pub returns-in_err-copy_amended-in-Some-clause-ends : goal.returns-in_err-copy_amended-in-Some-clause-ends
@@ -17,7 +17,7 @@ returns-in_err-copy_amended-in-Some-clause-ends g c =
     let e = c.in_ok-edited-in-Some.edited in
     let fails = rw (c.in_ok-edited-in-Some.ensures.copy_kept) at c.in_err-copy_amended-in-Some.ensures.fails in
     rw (c.in-Some.is) (ends_with c.from_residual-in_err-copy_amended-in-Some.result
-    (error_of_copy c.in_err-copy_amended-in-Some.field-0.0) c.args.depth _ _ _ (Some _)
+    (error_of_copy c.in_err-copy_amended-in-Some.field-0.0) c.args.depth c.args.mark _ _ _ _
     c.from_residual-in_err-copy_amended-in-Some.ensures.1
     (ends_at_copy c.args.depth _ _ _ (declarations_of e.declared.items) (contents e.first) e.origins.items e.cuts.items
     e.session.now e.refused _ c.in_err-copy_amended-in-Some.field-0.0 c.in_ok-edited-in-Some.ensures.edited fails))
@@ -27,7 +27,8 @@ returns-in_ok-copy_amended-in-Some-clause-ends g c =
     let e = c.in_ok-edited-in-Some.edited in
     let amended = rw (c.in_ok-edited-in-Some.ensures.copy_kept) at c.in_ok-copy_amended-in-Some.ensures.amended in
     rw (c.in-Some.is) (ends_with_output c.args.depth _ _ _ (declarations_of e.declared.items) (contents e.first)
-    e.origins.items e.cuts.items e.session.now e.refused _ c.in_ok-edited-in-Some.ensures.edited
+    e.origins.items e.cuts.items e.session.now e.refused c.args.mark e.edit_lines.items _
+    c.in_ok-edited-in-Some.ensures.edited c.in_ok-edited-in-Some.ensures.lines
     c.in_ok-edited-in-Some.ensures.not_failed c.in_ok-copy_amended-in-Some.ensures.not_failed
     c.in_ok-edited-in-Some.ensures.file_short amended)
 

@@ -7,6 +7,7 @@ use Rattle.vcd_amend.specs.declared.running.AmendRunError.TheVariants as errors
 use Rattle.vcd_amend.proofs.running.PlannedRun.{is_planned, ordered_cuts, sizes_stay, origins_stay}
 use Rattle.vcd_amend.proofs.running.EndsOfRun.{declarations_end, outline_ends, script_ends, memory_ends}
 use Rattle.vcd_amend.proofs.running.EndsOfRun.{hearing_ends, sizes_end, at_error}
+use Rattle.vcd_amend.proofs.running.MarkedRun.{lines_of_plan}
 use Rattle.vcd_amend.proofs.running.make_plan.Goals as goal
 
 pub returns-in_err-declared-clause-fails : goal.returns-in_err-declared-clause-fails
@@ -62,6 +63,12 @@ returns-clause-planned g c file lines shows script_shows =
     (rw (c.as_slice-2.ensures.value) at c.in_ok-capture.ensures.tried) c.in_ok-capture.ensures.kept
     (rw (c.as_slice-3.ensures.value, c.as_slice-origins.ensures.value) at c.in_ok-takes.ensures)
     (rw (c.as_slice-heard.ensures.value) at c.in_ok-first.ensures.means) shows script_shows
+
+pub returns-clause-lines : goal.returns-clause-lines
+returns-clause-lines g c file lines shows script_shows =
+    lines_of_plan file lines c.in_ok-script.script.items c.args.depth c.in_ok-outline.outline.skipped
+    (contents c.in_ok-outline.outline.capture) c.in_ok-capture.dry.edit_lines.items _ _ c.in_ok-outline.ensures.means
+    c.in_ok-script.ensures.all (rw (c.as_slice-2.ensures.value) at c.in_ok-capture.ensures.lines) shows.1 script_shows
 
 pub returns-clause-sizes : goal.returns-clause-sizes
 returns-clause-sizes g c =

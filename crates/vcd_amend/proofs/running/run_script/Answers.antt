@@ -1,4 +1,4 @@
-use Rattle.std.proofs.Common.{List, refl, sym, ap, subst}
+use Rattle.std.proofs.Common.{List, refl, sym, ap, subst, ◌∙◌}
 use Rattle.std.specs.Global.{Vec}
 use Rattle.std.specs.Io.KnownBytes.{Appends}
 use Rattle.vcd_core.specs.CaptureContents.{contents}
@@ -50,6 +50,11 @@ returns-clause-edited g c file lines shows script_shows =
     (contents plan.first) plan.origins.items plan.cuts.items plan.takes_skipped_name e.session e.refused _ _
     (c.in_ok-plan.ensures.planned file lines shows script_shows) c.in_ok-check_plan.ensures.free
     c.in_ok-edited.ensures.ran))
+
+pub returns-clause-lines : goal.returns-clause-lines
+returns-clause-lines g c file lines shows script_shows = λ d n means.
+    ap (λ v. v.items) c.in_ok-edited.ensures.kept.4
+    ∙ c.in_ok-plan.ensures.lines file lines shows script_shows d n means
 
 pub returns-clause-sizes : goal.returns-clause-sizes
 returns-clause-sizes g c =

@@ -179,7 +179,7 @@ failed_prefix later r stands kept is failed = grind (arith, appends_kept)
 
 -- ==== the line of a declaration, part by part
 
-joined : (w : List ℕ) (ws : List (List ℕ)) → join_with_byte 32 (w ∷ ws) ≡ w ++ spaced_words ws
+pub joined : (w : List ℕ) (ws : List (List ℕ)) → join_with_byte 32 (w ∷ ws) ≡ w ++ spaced_words ws
 joined w [] = sym (append-nil w)
 joined w (v ∷ ws) = ap (λ l. w ++ (32 ∷ l)) (joined v ws)
 

@@ -11,9 +11,11 @@ returns c =
     ∙ ap₂ with_rule one c.script_option.ensures.rule in
     let three = c.in_ok-arg-3.ensures.shape c.output_option.ensures.local
     ∙ ap₂ with_rule two c.output_option.ensures.rule in
-    let four = c.in_ok-arg-4.ensures.shape c.depth_option.ensures.local
-    ∙ ap₂ with_rule three c.depth_option.ensures.rule in
-    let five = c.in_ok-arg-5.ensures.shape c.quiet_option.ensures.local
-    ∙ ap₂ with_rule four c.quiet_option.ensures.rule in
-    IfOk-weaker c.arg-6.result _ _ (λ d added. added.shape c.capture_argument.ensures.local
-    ∙ ap₂ with_rule five c.capture_argument.ensures.rule) c.arg-6.ensures
+    let four = c.in_ok-arg-4.ensures.shape c.mark_option.ensures.local
+    ∙ ap₂ with_rule three c.mark_option.ensures.rule in
+    let five = c.in_ok-arg-5.ensures.shape c.depth_option.ensures.local
+    ∙ ap₂ with_rule four c.depth_option.ensures.rule in
+    let six = c.in_ok-arg-6.ensures.shape c.quiet_option.ensures.local
+    ∙ ap₂ with_rule five c.quiet_option.ensures.rule in
+    IfOk-weaker c.arg-7.result _ _ (λ d added. added.shape c.capture_argument.ensures.local
+    ∙ ap₂ with_rule six c.capture_argument.ensures.rule) c.arg-7.ensures

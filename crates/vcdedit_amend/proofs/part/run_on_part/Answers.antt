@@ -18,4 +18,4 @@ pub returns-in-Ok : goal.returns-in-Ok
 returns-in-Ok g c =
     let (capture, out, taken) = c.in-Ok.ensures in
     carried_out (options_in c.args.options.now) c.args.request capture out _ _ taken
-    c.requires.script c.run_on_file_of.ensures
+    c.requires.held c.run_on_file_of.ensures

@@ -1,0 +1,5 @@
+-- Lemmas: marks.
+pub mod MarkBytes
+pub mod MarkWords
+pub mod MarkedFiles
+pub mod MarkedCopies

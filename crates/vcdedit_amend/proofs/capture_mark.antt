@@ -1,0 +1,2 @@
+-- Lemmas of `capture_mark`.
+pub mod ReadSoFar

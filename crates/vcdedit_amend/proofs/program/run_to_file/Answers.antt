@@ -1,0 +1,28 @@
+-- An error of the run, a capture that was changed, or a completed run.
+use Rattle.std.proofs.Common.{Some, inl, refl}
+use Rattle.vcdedit_amend.proofs.program.Outcomes.{failed, written_to, changed}
+use Rattle.vcdedit_amend.proofs.program.run_to_file.Goals as goal
+
+pub returns-in_err-summary : goal.returns-in_err-summary
+returns-in_err-summary g c =
+    failed c.args.mark c.args.depth _ _ _ _ (Some c.args.path.now) _ c.in_err-summary.field-0.0 _ refl
+    c.in_err-summary.ensures.ends c.in_err-summary.ensures.remarked c.from_residual-in_err-summary.ensures.1
+
+pub returns-in_err-refuse_changed : goal.returns-in_err-refuse_changed
+returns-in_err-refuse_changed g c =
+    written_to c.args.mark c.args.depth _ _ _ _ c.args.path.now _ c.in_ok-summary.summary _
+    c.in_ok-summary.ensures.ends c.in_ok-summary.ensures.remarked
+    (changed (Some c.args.path.now) c.in_ok-summary.summary _ c.in_err-refuse_changed.field-0.0
+    c.from_residual-in_err-refuse_changed.ensures.1 c.in_err-refuse_changed.ensures.fault)
+
+pub returns-in_err-refuse_replaced : goal.returns-in_err-refuse_replaced
+returns-in_err-refuse_replaced g c =
+    written_to c.args.mark c.args.depth _ _ _ _ c.args.path.now _ c.in_ok-summary.summary _
+    c.in_ok-summary.ensures.ends c.in_ok-summary.ensures.remarked
+    (changed (Some c.args.path.now) c.in_ok-summary.summary _ c.in_err-refuse_replaced.field-0.0
+    c.from_residual-in_err-refuse_replaced.ensures.1 c.in_err-refuse_replaced.ensures.fault)
+
+pub returns : goal.returns
+returns g c =
+    written_to c.args.mark c.args.depth _ _ _ _ c.args.path.now _ c.in_ok-summary.summary _
+    c.in_ok-summary.ensures.ends c.in_ok-summary.ensures.remarked (inl refl)
