@@ -12,4 +12,4 @@ def test_register_is_read():
     assert (write["address"], write["direction"], write["data"]) == ("0x50", "write", ["0x2a"])
     assert (read["address"], read["acknowledges"], read["end"]) == ("0x50", ["ack", "nack"], "stop")
     assert Fraction(read["last_us"]) - Fraction(write["first_us"]) < 400
-    assert not write["doubt"] and not read["doubt"]
+    assert not write["remarks"]

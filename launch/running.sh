@@ -1,7 +1,7 @@
 # The end of ./vcdedit and of the scripts that `make install` makes: runs $program with the words given.
 
-# The memory in KiB that the machine can still give, or the limit of a control group of this process, where one is
-# lower. Kernels before 3.14 do not say what they can give: then it is the machine's memory.
+# The memory in KiB that the machine, and each control group of this process, can still give, without swap. Kernels
+# before 3.14 do not say what they can give: then it is the machine's memory. With less than 40 MiB no program begins.
 memory_in_kib() {
     while read -r name size _; do
         case $name in
@@ -11,24 +11,36 @@ memory_in_kib() {
     done < /proc/meminfo
     while IFS=: read -r _ controllers group; do
         case ",$controllers," in
-            ,,) limit=/sys/fs/cgroup$group/memory.max ;;
-            *,memory,*) limit=/sys/fs/cgroup/memory$group/memory.limit_in_bytes ;;
-            *) continue ;;
+            ,,) lower_to_limits "/sys/fs/cgroup$group" memory.max memory.current ;;
+            *,memory,*) lower_to_limits "/sys/fs/cgroup/memory$group" memory.limit_in_bytes memory.usage_in_bytes ;;
         esac
-        lower_to_limits "${limit%/*}" "${limit##*/}"
     done < /proc/self/cgroup
+    [ "$least" -ge 40960 ] || least=40960
     echo "$least"
 }
 
-# Takes the least limit of a group and of those above it. A limit is in bytes, or `max`.
-lower_to_limits() { # FOLDER FILE
+# Takes the least that a group and those above it can still give. A limit is in bytes, or `max`.
+lower_to_limits() { # FOLDER LIMIT HELD
     folder=$1
     while [ "$folder" != /sys/fs ]; do
         if [ -r "$folder/$2" ] && read -r bytes < "$folder/$2" && [ "$bytes" != max ]; then
-            [ $((bytes / 1024)) -ge "$least" ] || least=$((bytes / 1024))
+            left=$(((bytes - $(held_bytes "$folder" "$3")) / 1024))
+            [ "$left" -ge "$least" ] || least=$left
         fi
         folder=${folder%/*}
     done
+}
+
+# The bytes that a group holds, without those of files, which the system can drop.
+held_bytes() { # FOLDER HELD
+    held=0
+    if [ -r "$1/$2" ] && [ -r "$1/memory.stat" ]; then
+        read -r held < "$1/$2"
+        while read -r name size; do
+            case $name in active_file | inactive_file) held=$((held - size)) ;; esac
+        done < "$1/memory.stat"
+    fi
+    echo "$held"
 }
 
 # A growth past this memory is refused, and the run ends with status 5, before the system would end it.

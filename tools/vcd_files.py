@@ -8,10 +8,14 @@ import signal
 import sys
 
 
+# What the system says of a program or a library that does not fit in memory, in English.
+NO_ROOM = "failed to map segment", "annot allocate memory"
+
+
 def end_badly(kind, error, trace):
     """Ends a tool that foresaw no such end, or had not begun. The status 1 would say something of a capture."""
     sys.__excepthook__(kind, error, trace)
-    os._exit(5 if issubclass(kind, MemoryError) else 4)
+    os._exit(5 if issubclass(kind, MemoryError) or any(text in str(error) for text in NO_ROOM) else 4)
 
 
 sys.excepthook = end_badly
@@ -31,16 +35,20 @@ import re
 import shutil
 import tempfile
 
+# A stamp may begin with any number of zeros.
+getattr(sys, "set_int_max_str_digits", int)(0)
+
 VERSION = "1.0.0"
 
 DUMP_WORDS = {b"$dumpvars", b"$dumpall", b"$dumpon", b"$dumpoff", b"$end"}
 UNITS = ["s", "ms", "us", "ns", "ps", "fs"]
 CHUNK = 65536
-# The first letters of changes.
-SCALARS, VECTORS, REALS = (frozenset(letters) for letters in (b"01lLhHxXuUwWzZ-", b"bB", b"rRsS"))
-STAMP, DOLLAR = b"#$"
 # The letters of values, each as the program writes it, and those at the front without which a value is the same.
 LETTERS, SPARE = bytes.maketrans(b"LlHhXUuWw-Z", b"0011xxxxxxz"), re.compile(rb"0+(?=[01])|x+(?=x)|z+(?=z)|").match
+# The first letters of changes; those of one digit with its value.
+SCALARS = {letter: b"%c" % LETTERS[letter] for letter in b"01lLhHxXuUwWzZ-"}
+VECTORS, REALS = frozenset(b"bB"), frozenset(b"rRsS")
+STAMP, DOLLAR = b"#$"
 LINES_SHOWN = 10
 
 # What a file is that is no plain VCD, and what to do, by its first bytes.
@@ -67,8 +75,8 @@ OTHER_FILES = [
 Loss = collections.namedtuple("Loss", "count what names")
 
 
-class Trouble(Exception):
-    """Why a tool ends, or leaves a capture as it is: a line for its user, the status, and more lines."""
+class Trouble(argparse.ArgumentTypeError):
+    """Why a tool ends, refuses a word or leaves a capture as it is: a line for its user, the status, and more lines."""
 
     def __init__(self, reason, *more, status=4):
         super().__init__(reason)
@@ -76,12 +84,13 @@ class Trouble(Exception):
 
 
 def trouble_of(error, path=None):
-    """What went wrong, as trouble with this capture. Lack of memory has a status of its own."""
+    """Any exception as trouble with this capture. Lack of memory has a status of its own."""
     if isinstance(error, MemoryError) or getattr(error, "errno", None) == errno.ENOMEM:
         return Trouble("out of memory", status=5)
     if isinstance(error, OSError):
-        return Trouble("%s: " % error.filename * (error.filename not in (None, path)) + error.strerror)
-    return error
+        name = error.filename2 or error.filename
+        return Trouble("%s: " % name * (name not in (None, path)) + (error.strerror or str(error)))
+    return error if isinstance(error, Trouble) else Trouble("%s: %s" % (type(error).__name__, error))
 
 
 @contextlib.contextmanager
@@ -165,12 +174,11 @@ def program(name="vcdedit"):
 
 
 def words_of(file):
-    """The words of a file that is open for bytes. Another process may read the file, too."""
+    """The words of a file, or of a pipe, from where it is read next."""
     def lists():
-        place, rest = 0, b""
+        rest = b""
         # The longer the word that may go on, the more is read.
-        for chunk in iter(lambda: os.pread(file.fileno(), max(CHUNK, len(rest)), place), b""):
-            place += len(chunk)
+        for chunk in iter(lambda: file.read(max(CHUNK, len(rest))), b""):
             # With a letter behind it a chunk ends in a word: the one that may go on.
             *words, rest = (rest + chunk + b".").split()
             rest = rest[:-1]
@@ -180,36 +188,18 @@ def words_of(file):
     return itertools.chain.from_iterable(lists())
 
 
-def losses_of(file, listing):
-    """What vcdedit leaves out of a capture, by one pass over a regular file that is open for bytes. These are
-    variables; of the others real and string changes, and changes that a later one of the same tick replaces; and
-    comments among the changes. The program tells faults, and which variables it keeps.
-    """
-    words = words_of(file)
-    names, skipped = variables_in(words, listing.signals)
-    if len(skipped) != listing.skipped:
-        raise Trouble("what vcdedit leaves out of it can't be named")
-    values, replaced, comments = lost_changes_in(words)
-
-    def loss_of(counts, what):
-        kept = [(names[code], count) for code, count in counts.items() if code in names]
-        told = ["%s: %s" % (name, counted(count, what)) for name, count in kept]
-        return Loss(sum(count for _, count in kept), what, told)
-
-    found = [
-        Loss(len(skipped), "variable%s", skipped),
-        loss_of(values, "real or string change%s"),
-        loss_of(replaced, "change%s replaced within a tick"),
-        Loss(comments, "comment%s among the changes", []),
-    ]
-    return [loss for loss in found if loss.count]
-
-
-def variables_in(words, signals):
-    """The declared variables: the names of those that are kept, each by its code, and what the others are."""
-    kept, scopes, names, skipped = collections.deque(signals), [], {}, []
+def declarations_in(words):
+    """(command, its words) of each declaration."""
     for command in words:
-        inner = list(itertools.takewhile(b"$end".__ne__, words))
+        yield command, list(itertools.takewhile(b"$end".__ne__, words))
+        if command == b"$enddefinitions":
+            break
+
+
+def variables_in(words, listing):
+    """The declared variables: the code of each signal, and what the others are."""
+    kept, scopes, codes, skipped = collections.deque(listing.signals), [], [], []
+    for command, inner in declarations_in(words):
         if command == b"$scope":
             scopes.append(b"".join(inner[1:]))
         elif command == b"$upscope":
@@ -219,40 +209,73 @@ def variables_in(words, signals):
             name = b".".join([*scopes, b"".join(own)])
             if kept and (width.lstrip(b"0"), kind, name) == (b"%d" % kept[0].width, *kept[0][1:]):
                 kept.popleft()
-                names.setdefault(code, shown(name))
+                codes.append(code)
             else:
                 skipped.append(shown(b" ".join([kind, width, name])))
-        elif command == b"$enddefinitions":
-            break
-    return names, skipped
+    if kept or len(skipped) != listing.skipped:
+        raise Trouble("its variables are not those that vcdedit lists")
+    return codes, skipped
 
 
-def lost_changes_in(words):
-    """How many real and string changes each code has, how many that are replaced, and how many comments there are."""
-    values, replaced, comments = collections.Counter(), collections.Counter(), 0
-    tick, seen = b"", {}
+def changes_in(words):
+    """(tick, code, first word) of each change behind the declarations, and of each comment without a code."""
+    tick = 0
     for word in words:
         first = word[0]
-        if first in SCALARS or first in VECTORS:
-            code = word[1:] if first in SCALARS else next(words, None)
-            before = seen.setdefault(code, word)
-            if before != word and value_of(before) != value_of(word):
-                replaced[code] += 1
-                seen[code] = word
+        if first in SCALARS:
+            yield tick, word[1:], word
         elif first == STAMP:
-            if word[1:].lstrip(b"0") != tick:
-                tick, seen = word[1:].lstrip(b"0"), {}
-        elif first in REALS:
-            values[next(words, None)] += 1
+            tick = int(word[1:])
+        elif first in VECTORS or first in REALS:
+            yield tick, next(words, None), word
         elif first == DOLLAR and word not in DUMP_WORDS:
-            comments += word == b"$comment"
+            if word == b"$comment":
+                yield tick, None, word
             collections.deque(itertools.takewhile(b"$end".__ne__, words), 0)
-    return values, replaced, comments
+
+
+def losses_of(words, names):
+    """What vcdedit leaves out behind the declarations: comments, and of the variables with these names by their codes
+    real and string changes, and changes that a later one of the same tick replaces. The program tells faults."""
+    reals, replaced, comments, seen = collections.Counter(), collections.Counter(), 0, {}
+    for tick, code, word in changes_in(words):
+        if code is None:
+            comments += 1
+        elif code in names and word[0] in REALS:
+            reals[code] += 1
+        elif code in names:
+            before, seen[code] = seen.get(code), (tick, value_of(word))
+            if before and before[0] == tick and before != seen[code]:
+                replaced[code] += 1
+
+    def loss_of(counts, what):
+        told = ["%s: %s" % (names[code], counted(count, what)) for code, count in counts.items()]
+        return Loss(sum(counts.values()), what, told)
+
+    return [loss_of(reals, "real or string change%s"), loss_of(replaced, "change%s replaced within a tick"),
+            Loss(comments, "comment%s among the changes", [])]
+
+
+def ticks_in(words, numbers):
+    """(tick, {number: value}) of what changes at each tick with a change, by the numbers of each code. At the first all
+    have a value."""
+    tick, found, values = 0, dict.fromkeys(numbers, b"x"), {}
+    for after, code, word in itertools.chain(changes_in(words), [(None, None, b"")]):
+        if after != tick and found:
+            yield tick, {number: value for code, value in found.items() if values.get(code) != value
+                         for number in numbers[code]}
+            values.update(found)
+            found = {}
+        tick = after
+        if code in numbers and word[0] not in REALS:
+            found[code] = value_of(word)
 
 
 def value_of(word):
     """The value that the first word of a change has, in as few letters as the program writes it."""
-    value = (word[1:] if word[0] in VECTORS else word[:1]).translate(LETTERS)
+    if word[0] in SCALARS:
+        return SCALARS[word[0]]
+    value = word[1:].translate(LETTERS)
     return value[SPARE(value).end() :]
 
 
@@ -269,12 +292,17 @@ def unit_ticks(unit, timescale):
     return fractions.Fraction(1000) ** (UNITS.index(of_tick) - UNITS.index(unit)) / int(number)
 
 
-def ticks_of(text, timescale):
-    """The tick that a text names: a number of ticks, or a time with a unit, as 1.5ms. The timescale may be `none`."""
-    found = re.fullmatch(r"([0-9]+)(?:(\.[0-9]{1,15})?([munpf]?s))?", text)
-    if not found or int(found[1]) >= 2**64 - 1:
-        raise Trouble("%s is no time: write ticks, or a number and s, ms, us, ns, ps or fs" % text, status=2)
-    whole, part, unit = found.groups("")
+def time_of(text):
+    """The time that a text names: a number of ticks, or a number with a unit, as 1.5ms. It is the match of the text."""
+    time = re.fullmatch(r"0*([0-9]{1,20})(?:(\.[0-9]{1,15})?([munpf]?s))?", text)
+    if not time or int(time[1]) >= 2**64 - 1:
+        raise Trouble("%s is no time: write ticks, or a number and s, ms, us, ns, ps or fs" % text)
+    return time
+
+
+def ticks_of(time, timescale):
+    """The tick of a time. The timescale may be `none`."""
+    text, (whole, part, unit) = time[0], time.groups("")
     if not unit:
         return int(whole)
     if timescale == "none":
@@ -298,17 +326,34 @@ def what_else(prefix):
 
 
 def opened(path):
-    """A capture that is read more than once: a pipe is copied first."""
+    """A capture that is read more than once: what is no regular file is copied first."""
     try:
         file = sys.stdin.buffer if path == "-" else open(path, "rb")
-        if file.seekable() and path != "-":
+        if path != "-" and os.path.isfile(path):
             return file
         copy = tempfile.TemporaryFile()
         shutil.copyfileobj(file, copy)
         copy.seek(0)
         return copy
     except OSError as error:
-        raise Trouble("%s: %s" % (path, error.strerror)) from None
+        name = path if error.filename else "%s or its copy in %s" % (path, tempfile.gettempdir())
+        raise Trouble("%s: %s" % (name, error.strerror)) from None
+
+
+def add_window(parser, what, end):
+    """Gives a parser options for the first tick and the last that a tool looks at."""
+    how = {"metavar": "TIME", "type": time_of}
+    parser.add_argument("--from", dest="first", default="0", help="the first tick %s, or a time as 1.5ms" % what, **how)
+    parser.add_argument("--to", dest="last", help="the last tick %s [default: %s]" % (what, end), **how)
+
+
+def window_of(options, timescale, end, what):
+    """The first tick and the last that a tool looks at, which is none past the end."""
+    first = ticks_of(options.first, timescale)
+    last = end if options.last is None else min(end, ticks_of(options.last, timescale))
+    if first > last:
+        raise Trouble("--from: tick %d is past the last that is %s, %d" % (first, what, last), status=2)
+    return first, last
 
 
 def parser_of(name, usage, text, more):

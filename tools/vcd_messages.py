@@ -4,16 +4,18 @@ import collections
 import functools
 import heapq
 import itertools
-import operator
 import pathlib
 import re
 import subprocess
+import threading
 
 import vcd_files
 from vcd_files import program, shortened, shown
 
-# Letters of a line that are shown, and near names that are.
-LONGEST, NAMES_SHOWN = 100, 3
+# Letters of a line that are shown, near names that are, and how often names are compared for a report to find those.
+LONGEST, NAMES_SHOWN, COMPARED = 100, 3, 1 << 17
+# Reports on several captures seek them one after another.
+SEEKING = threading.Lock()
 
 # A fault or a refusal, what it means, what to do, and what the line of a fault is that of.
 Message = collections.namedtuple("Message", "kind name means remedy line")
@@ -27,7 +29,8 @@ MEANINGS = {(one.kind, one.name): ("%s\n    %s" % (one.means, one.remedy)).repla
 
 # What other lines on standard error mean.
 ENDINGS = {
-    "output: write fault": ["the new capture can't be written: is the disk full?"],
+    "output: write fault": [
+        "the new capture can't be written: is the disk full, or does a sticky folder protect the old one?"],
     "out of memory": ["out of memory", MEANINGS["fault", "NoMemory"]],
 }
 
@@ -85,74 +88,90 @@ def name_of(word, names):
     return names[int(position[1])] if position and int(position[1]) < len(names) else word
 
 
-def told_refusals(refused, lines, listing):
-    """Lines about the refused lines of a script, by number and refusal, for a capture with this listing."""
-    names = [signal.name for signal in listing.signals]
-    return shortened(refused, lambda one: told_refusal(*one, lines[one[0] - 1], names, listing.timescale))
+def told_refusals(refused, lines, listing, is_over=lambda: False):
+    """Lines about the refused lines of a script, by number and refusal, for a capture with this listing. No more near
+    names are sought once it is over."""
+    names, sought = [signal.name for signal in listing.signals], {}
+
+    def near(word):
+        with SEEKING:
+            if word not in sought and len(sought) * len(names) < COMPARED and not is_over():
+                sought[word] = nearest(shown(word), map(shown, names))
+        return sought.get(word)
+
+    return shortened(refused, lambda one: told_refusal(*one, lines[one[0] - 1], names, listing.timescale, near))
 
 
-def told_refusal(number, name, line, names, timescale):
+def told_refusal(number, name, line, names, timescale, near):
     told, command = ["line %d: %s: %s" % (number, short(line), name)], shown(line.split()[0])
     meaning = [MEANINGS.get(("refusal", name), "")]
     if name == "UnknownCommand":
         other = vcd_files.what_else(line) if number == 1 else None
         if other:
             return told + ["the script %s: %s" % tuple(other)]
-        told += ["is %s meant?" % near for near in usages() if likeness(near, command.lower()) > 0.6][:1]
+        told += ["is %s meant?" % usual for usual in usages() if likeness(usual, command.lower()) > 0.6][:1]
     if name == "WrongCount" and command in usages():
         told.append("usage: %s (%s)" % usages()[command])
     if name in NUMBERS:
         words = [word for word in map(shown, line.split()) if re.fullmatch(NUMBERS[name], word)]
         told += [told_number(word, timescale) for word in words]
-    return told + (name == "NoSuchName" and told_names(signals_in(line), names) or meaning)
+    return told + (name == "NoSuchName" and told_names(signals_in(line), names, near) or meaning)
 
 
 def told_number(word, timescale):
     """A line about a time with a unit, or a hexadecimal number."""
     try:
-        is_time = not word.startswith("0x")
-        return "%s: write %s" % (word, vcd_files.ticks_of(word, timescale) if is_time else format(int(word, 16), "b"))
+        if word.startswith("0x"):
+            return "%s: write %s" % (word, format(int(word, 16), "b"))
+        return "%s: write %d" % (word, vcd_files.ticks_of(vcd_files.time_of(word), timescale))
     except vcd_files.Trouble as trouble:
         return trouble.lines[0]
 
 
-def told_names(words, names):
+def told_names(words, names, near):
     """Lines about the names that a capture has not, or else about those that it had before the lines above."""
     unknown = [word for word in words if name_of(word, names) not in names]
     if unknown:
-        return [line for word in unknown for line in told_name(word, names)]
+        return [line for word in unknown for line in told_name(word, names, near)]
     return ["%s is in the capture: was it renamed or removed by a line above?" % shown(word) for word in words]
 
 
-def told_name(word, names):
+def told_name(word, names, near):
     """A line about a name that a capture has not, if there is more to say."""
     if re.fullmatch(rb"@[0-9]+", word):
         return ["%s: the capture has %d signals, the first is @0" % (shown(word), len(names))]
-    near = nearest(shown(word), map(shown, names))
-    return ["%s: near names are %s" % (shown(word), ", ".join(near))] if near else []
+    found = near(word)
+    return ["%s: near names are %s" % (shown(word), ", ".join(found))] if found else []
 
 
 def nearest(name, names):
     """The names that are most like a name in the last part, then in the scopes. One of them is like it."""
-    *scopes, last = parts_of(name)
-    like, found = functools.lru_cache(None)(likeness), []
+    (scopes, last), like, found = parts_of(name), functools.lru_cache(None)(likeness), []
     for other in names:
-        *scopes_there, last_there = parts_of(other)
-        alike = like(last, last_there), like(".".join(scopes), ".".join(scopes_there))
-        if max(alike) > 0.6:
-            found.append((alike, other))
+        scopes_there, last_there = parts_of(other)
+        both = like(last, last_there), like(scopes, scopes_there)
+        if max(both) > 0.6:
+            found.append((both, other))
     return [other for _, other in heapq.nlargest(NAMES_SHOWN, found, key=lambda one: one[0])]
 
 
 def parts_of(name):
-    """The scopes of a name, and the last part without its range, in lower case."""
-    *scopes, last = name.lower().split(".")
-    return [*scopes, last.partition("[")[0]]
+    """The scopes of a name, or of a pattern, and the last part without its range, in lower case."""
+    scopes, _, last = name.lower().strip("*?").rpartition(".")
+    return scopes, last.partition("[")[0]
 
 
 def likeness(one, other):
-    """How much of the longer text both have at the front or, behind that, at the end: from 0 to 1."""
-    def alike(*texts):
-        return sum(1 for _ in itertools.takewhile(bool, map(operator.eq, *texts)))
+    """How much of the longer text both have at the front or, behind that, at the end: from 0 to 1. A text is like one
+    that has it within."""
     front = alike(one, other)
-    return (front + alike(reversed(one[front:]), reversed(other[front:]))) / (max(len(one), len(other)) or 1)
+    both = (front + alike(one[front:][::-1], other[front:][::-1])) / (max(len(one), len(other)) or 1)
+    return max(both, 0.61 * (len(one) > 1 and one in other))
+
+
+def alike(one, other):
+    """How many letters two texts have in common at the front."""
+    for count, (letter, letter_there) in enumerate(zip(one, other)):
+        if letter != letter_there:
+            return count
+    return min(len(one), len(other))

@@ -9,7 +9,7 @@ import signal
 import subprocess
 
 import vcd_messages
-from vcd_files import Trouble, program, shown
+from vcd_files import NO_ROOM, Trouble, program, shown
 
 # The signals that end a run, and that a user or a system sends.
 INTERRUPTIONS = [signal.Signals["SIG" + name] for name in "INT TERM HUP QUIT ALRM USR1 USR2 XCPU".split()]
@@ -22,8 +22,8 @@ REMARK = re.compile(r"^line (\d+): (.*)\n", flags=re.MULTILINE)
 # What a run begins with so that it ends with the tool, even if that is killed.
 GUARD = ["setpriv", "--pdeathsig", "TERM"] if shutil.which("setpriv") else []
 
-# What vcdedit-amend says of memory while it reads; the run goes on.
-FORECAST = re.compile("^vcdedit-amend: memory may run out: .*\n", re.M)
+# What is said of memory while vcdedit-amend reads, and by first-look of its build; the run goes on.
+NOTES = re.compile("^(?:vcdedit-amend: memory may run out|first-look): .*\n", re.M)
 
 # What `list` says: the timescale or `none`, the last tick, how many variables are skipped, and the signals.
 Listing = collections.namedtuple("Listing", "timescale end skipped signals")
@@ -51,16 +51,18 @@ class Run:
 
     def __init__(self, source, lines=(), words=(), written=(), name="vcdedit", path="/dev/stdin", **how):
         """`words` are more options. `written` has the descriptor of a file for its output, if there is one. The program
-        opens the capture by a path, so that it can read it more than once."""
+        opens the capture by a path, so that it can read it more than once. If `lines` are None, it has no script."""
         self.source, self.lines, self.program = source, lines, program(name)
         with open(os.memfd_create("script"), "wb") as script:
-            script.write(b"list\n" + b"".join(line + LAST * (not has_one_reply(line)) + b"\n" for line in lines))
+            script.write(b"list\n" + b"".join(line + LAST * (not has_one_reply(line)) + b"\n" for line in lines or ()))
             script.flush()
-            words = [*GUARD, self.program, "-i", path, "--script", "/dev/fd/%d" % script.fileno(), *words]
+            by_script = ["--script", "/dev/fd/%d" % script.fileno()] if lines is not None else []
+            words = [*GUARD, self.program, "-i", path, *by_script, *words]
             words += ["-o", "/dev/fd/%d" % written[0]] if written else []
             # Remarks may be longer than a pipe holds, which nobody reads while replies come.
             self.errors = open(os.memfd_create("errors"), "w+b")
-            how = {"stdout": subprocess.PIPE, "stderr": self.errors, "bufsize": 1 << 20, **how}
+            english = {**os.environ, "LC_ALL": "C"}
+            how = {"stdout": subprocess.PIPE, "stderr": self.errors, "bufsize": 1 << 20, "env": english, **how}
             self.child = subprocess.Popen(words, stdin=source, pass_fds=[script.fileno(), *written], **how)
 
     def __enter__(self):
@@ -113,11 +115,13 @@ class Run:
     def want_end(self):
         """Waits for the run's end, and raises what went wrong. A line that is refused is nothing wrong."""
         status = self.child.wait()
-        errors = FORECAST.sub("", REMARK.sub("", self.told()))
+        errors = NOTES.sub("", REMARK.sub("", self.told()))
         if -status in INTERRUPTIONS:
             raise Trouble("interrupted", status=128 - status)
         if status == -signal.SIGXFSZ:
             raise Trouble("the new capture is larger than a file may be (ulimit -f)")
+        if status > 5 and any(text in errors for text in NO_ROOM):
+            raise Trouble("out of memory", status=5)
         if status < 0:
             raise Trouble("the run was ended by signal %d; without memory the system does that" % -status, status=5)
         if status > 1 or status and errors:

@@ -34,7 +34,7 @@ BESIDE = '"${target%/*}/.${target##*/}.vcdedit"'
 # What a run that writes does, the status, and what is told of its capture.
 FAILING = [
     ("echo 'vcdedit-amend: output: write fault' >&2 && exit 4", 4,
-     "the new capture can't be written: is the disk full?"),
+     "the new capture can't be written: is the disk full, or does a sticky folder protect the old one?"),
     ("echo 'vcdedit-amend: out of memory' >&2 && exit 5", 5, "out of memory"),
     ("echo 'vcdedit-amend: NameOfSkipped: a name' >&2 && exit 1", 1, "NameOfSkipped: a name"),
     ("kill -XFSZ $$", 4, "the new capture is larger than a file may be (ulimit -f)"),
@@ -59,13 +59,10 @@ exec %s "$@"
 # A line that is refused, and what is told of it.
 REFUSED = [
     ("value tb.q 3", ["value tb.q 3: NoSuchName", "tb.q: near names are tb.q[3:0]"]),
-    ("value TB.RX 3", ["tb.rx"]),
-    ("invert @7", ["the capture has 2 signals"]),
     ("remove tb.rx\ninvert tb.rx", ["line 2: invert tb.rx", "renamed or removed by a line above"]),
-    ("value tb.rx", ["usage: value NAME TICK"]),
-    ("derive both and tb.rx", ["usage: derive WORD not A"]),
-    ("Invert tb.rx", ["is invert meant?"]),
-    ("\N{BYTE ORDER MARK}invert tb.rx", ["byte order mark"]),
+    ("value TB.RX 3", ["tb.rx"]), ("invert @7", ["the capture has 2 signals"]),
+    ("value tb.rx", ["usage: value NAME TICK"]), ("derive both and tb.rx", ["usage: derive WORD not A"]),
+    ("Invert tb.rx", ["is invert meant?"]), ("\N{BYTE ORDER MARK}invert tb.rx", ["byte order mark"]),
     ("cut 60 200", ["cut 60 200: BadRange", "TO is past the end"]),
 ]
 # A capture that is refused, and what is told of it.
@@ -146,24 +143,37 @@ def writes(program, folder):
 
 def stays(program, folder):
     place = Folder(program, folder, ["A", "B", "fixed", "kept/A", "in/p"])
-    os.mkdir(place.folder + "/sub")
     os.mkfifo(place.folder + "/pipe")
     os.symlink("nowhere", place.folder + "/lost")
     os.chmod(place.folder + "/fixed", 0o444)
     os.chmod(place.folder + "/kept/A", 0o444)
     os.symlink("../in/p", place.folder + "/kept/B")
+    os.mkfifo(place.folder + "/kept/p")
     for words, status, reason in (
-        (["sub"], 4, "as it was: is no regular file"),
-        (["none"], 4, "as it was: No such file or directory"),
         (["lost"], 4, "as it was: No such file or directory"),
         (["pipe"], 4, "as it was: is no regular file"),
         (["fixed"], 4, "as it was: OutputProtected: the output is write-protected"),
         (["A", "--to", "kept"], 4, "not written: OutputProtected: the output is write-protected"),
         (["B", "--to", "kept"], 4, "not written: %s/kept/B is the capture, or no regular file" % place.folder),
+        (["in/p", "--to", "kept"], 4, "not written: %s/kept/p is the capture, or no regular file" % place.folder),
         (["A", "--to", "."], 4, "not written: %s/A is the capture, or no regular file" % place.folder),
+        (["A", "--backup", "/b"], 4, "as it was: %s/A/b: Not a directory" % place.folder),
     ):
         found = place.run("script", *words)
         yield "%s: %s" % (words, found), found == (status, ["%s: %s" % (words[0], reason)], "")
+    tool, path = module_of("tools/vcdedit-apply"), place.folder + "/A"
+    work = tool.Work(tool.options_of([place.folder + "/script", path]))
+    with unittest.mock.patch("os.access", return_value=False), unittest.mock.patch.object(work, "show") as show:
+        found = work.carry_out(path), show.call_args.args
+    told = "%s: as it was: %s: no permission to write in this folder" % (path, place.folder)
+    yield "a folder that is closed: %s" % (found,), found == ((4, False), (told,))
+    yield "none has changed", {place.load(name) for name in ("A", "B", "fixed", "kept/A", "in/p")} == {LINE}
+
+
+def explains(program, folder):
+    """What is told of a line, a capture or a command that is refused. Nothing is written."""
+    place = Folder(program, folder)
+    os.mkdir(place.folder + "/sub")
     for line, told in REFUSED:
         place.store("lines", line + "\n")
         status, shown, errors = place.run("lines", "A")
@@ -176,18 +186,12 @@ def stays(program, folder):
         yield "told of " + told[0], right and place.load("faulty") == text.decode("latin-1")
     place.store("vast", "#\n" * 600000)
     for words, status in (
-        (["vast", "A"], 3),
-        (["none", "A"], 4),
-        (["sub", "A"], 4),
-        (["script", "A", "--jobs", "0"], 2),
-        (["script", "A", "--jobs", "1_0"], 2),
-        (["script", "A", "./A"], 2),
-        (["script", "A", "sub/../A", "--to", "sub"], 2),
-        (["script", "A", "--to", ""], 4),
-        (["script", "A", "--backup", "/b"], 4),
+        ("vast A", 3), ("none A", 4), ("sub A", 4), ("script A --to ", 4), ("script A ./A", 2),
+        ("script A sub/../A --to sub", 2), ("script A --jobs 0", 2), ("script A --jobs 1_0", 2),
+        ("script A --jobs \N{ARABIC-INDIC DIGIT ONE}", 2),
     ):
-        yield "refused: " + " ".join(words), place.run(*words)[0] == status
-    yield "none has changed", {place.load(name) for name in ("A", "B", "fixed", "kept/A", "in/p")} == {LINE}
+        yield "refused: " + words, place.run(*words.split(" "))[0] == status
+    yield "nothing has changed", place.load("A") == LINE
 
 
 def answers(program, folder):
@@ -209,6 +213,14 @@ def answers(program, folder):
     told = "A: as it was: NameOfSkipped: a signal would get the full name of a variable that is not edited"
     yield "a dry run refuses what a run does", place.run("named", "A", "--dry-run") == (1, [told], "")
     yield "nothing is written", {place.load("A"), place.load("B")} == {LINE} and len(place.names()) == 6
+    name = os.fsdecode(b"\xff")
+    place.store(name, LINE)
+    for words, ending in ((["--dry-run"], "would be written"), ([], "written")):
+        found = run([APPLY, "script", name, "A", *words], cwd=place.folder, env=place.environment, text=False)
+        lines = [name + ": as it was: its path is no UTF-8 text, which vcdedit-amend wants", "A: %s: 1 ok" % ending,
+                 "1 %s, 1 not, status 4" % ending]
+        right = (found[0], os.fsdecode(found[1]).splitlines()) == (4, lines)
+        yield "a name that is no UTF-8 text: %s" % (found,), right
 
 
 def fails(program, folder):
@@ -299,7 +311,7 @@ def interrupted(program, folder):
         number = signal.Signals["SIG" + number]
         how = {"cwd": place.folder, "env": place.environment, "preexec_fn": default_signals, "stderr": subprocess.PIPE}
         tool = subprocess.Popen([APPLY, "script", "A", "B", "C"], stdout=subprocess.PIPE, text=True, **how)
-        began = wait_for(lambda: "number" in place.names())
+        began = wait_for(lambda: place.load("number").strip())
         child, begun = int(place.load("number")), time.monotonic()
         tool.send_signal(number)
         shown, told = map(without_remarks, tool.communicate(timeout=60))
@@ -348,26 +360,32 @@ def without_memory(program, folder):
     amend = store_program(folder + ".amend", text=text)
     place, wrong, seen = Folder(program, folder, "", amend), [], set()
 
-    def limited(megabytes, *words):
-        limit = lambda: resource.setrlimit(resource.RLIMIT_AS, (megabytes << 20, resource.RLIM_INFINITY))
+    # A limit is in quarters of a MiB: what lies between a start and a run may be less than one.
+    def limited(quarters, *words):
+        limit = lambda: resource.setrlimit(resource.RLIMIT_AS, (quarters << 18, resource.RLIM_INFINITY))
         return place.run(*words, preexec_fn=limit)
 
     # With less, Python does not begin.
-    least, whole = next(megabytes for megabytes in range(10, 90) if limited(megabytes, "--version")[0] == 0), set()
-    for megabytes, jobs in [(least + more, jobs) for more in (*range(6), 60) for jobs in ("1", "3")]:
+    least, whole = next(quarters for quarters in range(40, 360) if limited(quarters, "--version")[0] == 0), set()
+    for quarters, jobs in [(least + more, jobs) for more in (0, 1, 2, 4, 8, 16, 240) for jobs in ("1", "3")]:
         for name in "ABC":
             place.store(name, toggling(2000, "$var wire 1 ! rx $end\n"))
         old = place.load("A")
         place.store("named", "rename rx tx\n")
-        status, shown, errors = limited(megabytes, "named", "A", "B", "C", "--jobs", jobs)
+        status, shown, errors = limited(quarters, "named", "A", "B", "C", "--jobs", jobs)
         whole |= {place.load(name) for name in "ABC"} - {old, old.replace(" rx ", " tx ")}
         written = [name + ": written: 1 ok" for name in "ABC" if place.load(name) != old]
         lines = sorted(line for line in shown if line[1] == ":")
         seen.add(status)
         if [line[0] for line in lines] != [*"ABC"] * bool(lines) or not set(written) <= set(lines):
-            wrong.append((megabytes, jobs, status, shown, errors))
+            wrong.append((quarters, jobs, status, shown, errors))
     yield "lines without memory: %s" % wrong[:1], not wrong and not whole
     yield "statuses without memory: %s" % seen, seen == {0, 5}
+
+
+def ends(program, folder):
+    """A run that ends in another way than it can by itself: without memory, or by what nobody foresaw."""
+    place = Folder(program, folder, "A")
     tool, want_end, lines = module_of("tools/vcdedit-apply"), vcd_runs.Run.want_end, []
 
     def fail_at_the_end(run):
@@ -375,19 +393,22 @@ def without_memory(program, folder):
         if run.child.stdout is None:
             raise MemoryError
 
-    acts = {"listing": unittest.mock.Mock(side_effect=MemoryError)}, {"want_end": fail_at_the_end}
-    for act, wanted in zip(acts, ((5, False), (0, True))):
+    for act, wanted, told in (
+        ({"listing": unittest.mock.Mock(side_effect=MemoryError)}, (5, False), "as it was: out of memory"),
+        ({"listing": unittest.mock.Mock(side_effect=KeyError("e"))}, (4, False), "as it was: KeyError: 'e'"),
+        ({"want_end": fail_at_the_end}, (0, True), "written: 1 ok"),
+    ):
         path = place.store("A", LINE)
-        work = tool.Work(tool.options_of([place.folder + "/script", path]))
-        work.show = lines.append
+        work = tool.Work(tool.options_of([folder + "/script", path]))
+        work.show, tool.tell = lines.append, unittest.mock.Mock()
         with unittest.mock.patch.dict(os.environ, place.environment), unittest.mock.patch.multiple(vcd_runs.Run, **act):
             found = work.carry_out(path)
-        is_told = lines.pop().endswith(": written: 1 ok" if wanted[1] else ": as it was: out of memory")
+        is_told = lines.pop() == "%s: %s" % (path, told)
         right = (found, is_told, lines, place.load("A") != LINE) == (wanted, True, [], wanted[1])
-        yield "memory that runs out in a run: %s" % (found,), right
+        yield "what ends a run by %s: %s" % (act, found), right
 
 
 def check(program, folder):
-    for part in (writes, stays, answers, remarks, fails, streams, interrupted, alone, without_memory):
+    for part in (writes, stays, explains, answers, remarks, fails, ends, streams, interrupted, alone, without_memory):
         for name, right in part(program, os.path.join(folder, part.__name__)):
             yield "%s: %s" % (part.__name__, name), right

@@ -2,11 +2,13 @@
 
 import collections
 import gzip
+import math
 import os
 import random
 import re
 
-from common import TOP, module_of, run, store
+from common import TOP, amend_of, module_of, run, store
+from random_captures import Capture, Chance
 
 TOOL = os.path.join(TOP, "tools/vcdedit-compare")
 
@@ -16,23 +18,16 @@ TWO = "wire 1 a|wire 1 a"
 # `!` is the code of the first signal, `"` of the second, and `#` of the third.
 PAIRS = {
     "the first tick": ((ONE, "#5 1! #9"), (ONE, "1! #4 x! #5 1! #9"), "a: 1 difference, first at tick 0: x, 1"),
-    "past the smaller end": ((ONE, "#5 1! #9"), (ONE, "#5 1! #10 0! #11 x! #12"),
-        "end: 9, 12 (compared up to the smaller)"),
-    "at the smaller end": ((ONE, "#9 1!"), (ONE, "#10 1!"),
-        "end: 9, 10 (compared up to the smaller)|a: 1 difference, first at tick 9: 1, x"),
-    "the last tick": ((ONE, "#5 0! #9 1!"), (ONE, "#5 0! #9"), "a: 1 difference, first at tick 9: 1, 0"),
-    "a kind of digits": (("1 1 a", "0! #9"), ("01 1 a", "0! #9"), "a: 1, 01"),
+    "the smaller end": ((ONE, "#9 1!"), (ONE, "#10 0! #11 x! #12"),
+        "end: 9, 12 (compared up to the smaller)|a: 1 difference, first at tick 9: 1, x"),
     "a kind and a width": (("wire 2 a", "b1 ! #9"), ("reg 3 a", "b1 ! #9"), "a: wire, reg|a: 2 bits, 3 bits"),
     "one bit": (("wire 1 a", "0! #9"), ("wire 12 a", "b0 ! #9"), "a: 1 bit, 12 bits"),
     "no timescale": (("1 ns|" + ONE, "#9"), (ONE, "#9"), "timescale: 1 ns, none (ticks are compared as they are)"),
-    "a signal": ((ONE, "#9"), (ONE + "|wire 1 b", "#9"), "b: only in B"),
     "the second of a name": ((TWO, '0! 0" #3 1" #9'), (TWO, '0! 0" #9'), "a (2): 1 difference, first at tick 3: 1, 0"),
     "a name twice": ((TWO, '0! 0" #9'), (ONE, "0! #9"), "a (2): only in A"),
     "the greatest ticks": (
         (ONE, "0! #9223372036854775806 1! #9223372036854775807"), (ONE, "0! #9223372036854775807 1!"),
         "a: 1 difference, first at tick 9223372036854775806: 1, 0"),
-    "a change that both have, while they are apart": ((ONE, "0! #3 1! #5 x! #6 1! #9"), (ONE, "0! #5 x! #9"),
-        "a: 2 differences, first at tick 3: 1, 0, last at tick 6: 1, x"),
     "two places": (("wire 4 a", "b1 ! #3 bz1 ! #5 b1 ! #9"), ("wire 4 a", "b1 ! #4 bx ! #9"),
         "a: 1 difference, first at tick 3: zzz1, 0001"),
 }
@@ -54,7 +49,6 @@ SKIPPED_LINES = [LEFT_OUT, "    real 64 r", "    event 1 e"]
 # Two captures, and which of them have variables that are left out.
 SKIPPED = [(REAL, PLAIN, "A"), (PLAIN, REAL, "B"), (REAL, REAL, "AB"), (PLAIN, PLAIN, "")]
 CLOCK = (ONE, "0! #10 1! #11 0! #20 1! #30 0! #50")
-PULSES = "0! #5 1! #10 0! #15 1! #20 0! #25 1! #30 0! #35 1! #40 0! #60"
 SHORT = "--within %s is half of a shortest run or more; pairs may be wrong:|    a: %s|"
 ALONE = "a: %d change%s without a pair, first at tick %s|"
 FINER = "timescale: 1 ns, 100 ps (ticks are those of 100 ps)|the same: 1 signal up to tick 90"
@@ -70,31 +64,18 @@ OPTIONS = [
     ("--within 2", CLOCK, edited("#20", "#22"), 0, SHORT % (2, "1 tick") + "the same: 1 signal up to tick 50"),
     ("--within 2", CLOCK, edited("#20", "#23"), 1,
      ALONE % (2, "s", "20: to 1 in A, last at tick 23: to 1 in B") + SHORT % (2, "1 tick")),
-    ("--within 9", CLOCK, edited("#10 1! #11 0! ", ""), 1,
-     ALONE % (2, "s", "10: to 1 in A, last at tick 11: to 0 in A") + SHORT % (9, "1 tick")),
-    ("--within 9", CLOCK, edited("#10 1! #11 0! ", "#14 1! #15 0! "), 0,
-     SHORT % (9, "1 tick") + "the same: 1 signal up to tick 50"),
-    ("--within 4", (ONE, "0! #10 1! #20 0! #50"), (ONE, "0! #14 1! #23 0! #50"), 0, "the same: 1 signal up to tick 50"),
-    ("--within 5", (ONE, "0! #3 1! #5 x! #9"), (ONE, "0! #5 x! #9"), 1,
-     ALONE % (1, "", "3: to 1 in A") + SHORT % (5, "2 ticks")),
-    ("--within 2", (ONE, "0! #9 1! #10"), (ONE, "0! #12 1!"), 1, ALONE % (1, "", "9: to 1 in A|")),
     ("--within 2", (ONE, "0! #5 1! #20"), (ONE, "0! #5 x! #20"), 1, ALONE % (2, "s", "5: to 1 in A, to x in B|")),
-    ("--within 2", (ONE, "0! #9 1! #10"), (ONE, "0! #11 1! #12"), 0, "the same: 1 signal up to tick 10"),
     ("--within 2", (ONE, "0! #9"), (ONE, "0! #10 1! #11"), 0, "the same: 1 signal up to tick 9"),
-    # Two clocks that lack a pulse each, and a change before the window that has its pair in it, or none.
-    ("--within 10", (ONE, PULSES.replace("#15 1! #20 0! ", "")), (ONE, PULSES.replace("#35 1! #40 0! ", "")), 1,
-     ALONE % (4, "s", "15: to 1 in B, last at tick 40: to 0 in A") + SHORT % (10, "5 ticks")),
-    ("--within 3 --from 10", (ONE, "0! #9 1! #20"), (ONE, "0! #12 1! #20"), 0, "the same: 1 signal from tick 10 to 20"),
     ("--within 3 --from 10", (ONE, "0! #5 1! #20"), (ONE, "0! #20"), 1, ALONE % (1, "", "5: to 1 in A|")),
-    ("--within 3 --to 10", (ONE, "0! #9 1! #20"), (ONE, "0! #12 1! #20"), 0, "the same: 1 signal up to tick 10"),
     ("--from 12 --to 40", CLOCK, (ONE, "0! #20 1! #30 0! #41 1! #60"), 0, "the same: 1 signal from tick 12 to 40"),
     ("--from 12", CLOCK, edited("#11 0! ", ""), 1, "a: 1 difference, first at tick 12: 0, 1"),
-    ("--from 11", CLOCK, (ONE, "1! #11 0! #20 1! #30 0! #50"), 0, "the same: 1 signal from tick 11 to 50"),
-    ("--to 19", CLOCK, (ONE, "0! #10 1! #11 0! #19"), 0, "the same: 1 signal up to tick 19"),
     ("--from 60", CLOCK, CLOCK, 2, "tick 60 is past"),
     ("", ("1 ns|" + ONE, "0! #3 1! #9"), ("100 ps|" + ONE, "0! #30 1! #90"), 0, FINER),
     ("--within 200ps", ("1 ns|" + ONE, "0! #3 1! #9"), ("100 ps|" + ONE, "0! #32 1! #91"), 0, FINER),
     ("--within 1ns", CLOCK, CLOCK, 2, "no timescale"),
+    ("--within 1e3", CLOCK, ("", "bad"), 2, "--within: 1e3 is no time: write ticks, or"),
+    ("--from 36 --to 75", ("1 ns|" + ONE, "0! #3 1! #9"), ("100 ps|" + ONE, "0! #74 1! #90"), 1,
+     FINER.partition("|")[0] + "|a: 1 difference, first at tick 36: 1, 0|"),
     ("--map tb.u=top", (NAMES, "#9"), (NAMES.replace("tb.u", "top"), "#9"), 0, "the same: 3 signals up to tick 9"),
     ("--map tb.q=tb.d", (NAMES, "#9"), (NAMES.replace("tb.q", "tb.d"), "#9"), 0, "the same: 3 signals up to tick 9"),
     ("--map tb.u.a=tb.u.b --map tb.u.b=tb.u.a", (NAMES, "0! #9"), (NAMES, '0" #9'), 0,
@@ -125,12 +106,13 @@ def text(declared, changes):
 
 
 def check(program, folder):
-    environment = {**os.environ, "VCDEDIT": program}
+    environment = {**os.environ, "VCDEDIT_AMEND": amend_of(program)}
 
     def compare(*words, given=None, before=()):
         return run([*before, TOOL, *words], cwd=folder, env=environment, input=given)
 
     yield from random_cases()
+    yield from one_form(program, folder, compare)
     yield from pairs(folder, compare)
     yield from skipped(folder, compare)
     yield from paths(folder, compare)
@@ -140,7 +122,7 @@ def check(program, folder):
             status, shown, errors = compare(*pair)
             right = errors.startswith("vcdedit-compare: bad: ") and all(word in errors for word in told)
             yield "comparing with a refused capture: %s" % told, (status, shown, right) == (2, "", True)
-    done = run([TOOL, "A", "A"], cwd=folder, env={**environment, "VCDEDIT": "/bin/true"})
+    done = run([TOOL, "A", "A"], cwd=folder, env={**environment, "VCDEDIT_AMEND": "/bin/true"})
     yield "no vcdedit", done == (2, "", "vcdedit-compare: A: /bin/true is no vcdedit\n")
     for words, first, second, status, wanted in OPTIONS:
         store(folder, "A", text=text(*first))
@@ -176,18 +158,21 @@ def events_of(one, other, within):
 
 
 def exact(one, other, within, first, last):
-    """How often two signals differ in a window, and where first and last."""
+    """How often two signals differ in a window, where first and last, and the shortest run, if pairs may be wrong."""
     values, apart, is_inside, times, noted = {}, None, False, 0, []
     for tick, changes, is_alone in [*events_of(one, other, within), (last + 1, {}, False)]:
         if tick > first and not is_inside:
             is_inside, times, noted = True, int(bool(apart)), [apart] if apart else []
         were_alike = values.get(0) == values.get(1)
         values.update(changes)
-        are_apart, both = values[0] != values.get(1), {0: values[0], 1: values.get(1)}
+        both = {side: values.get(side) for side in (0, 1)}
+        are_apart = both[0] != both[1]
         if is_alone and first < tick <= last and (within or were_alike and are_apart):
             times, noted = times + (len(changes) if within else 1), [*noted, (tick, changes if within else both)]
         apart = are_apart and (tick if within else first, changes if within else both)
-    return times, noted[:1] + noted[1:][-1:]
+    runs = [after - before for changes in (one, other) for (before, _), (after, _) in zip(changes, changes[1:])
+            if first < after <= last and after - before <= 2 * within]
+    return times, noted[:1] + noted[1:][-1:], min(runs, default=math.inf)
 
 
 def random_cases():
@@ -199,34 +184,38 @@ def random_cases():
             value, is_near = numbers.choice(letters), numbers.random() < 0.8
             for changes in sides:
                 late = numbers.choice([0, 0, 1, 2]) if is_near and tick else 0
-                change = (tick + late, value if is_near or not tick else numbers.choice(letters))
+                change = (tick + late, value if is_near else numbers.choice(letters))
                 if not changes or change[0] > changes[-1][0] and change[1] != changes[-1][1]:
                     changes.append(change)
         within, first = numbers.choice([0, 1, 2, 3, 5]), numbers.choice([0, numbers.randint(0, end)])
         last, pair = numbers.randint(first, end), tool.Pair("a", 1)
-        streams = [[(tick, side, {0: value}) for tick, value in changes] for side, changes in enumerate(sides)]
+        streams = [((tick, {0: value}) for tick, value in changes) for changes in sides]
         tool.Comparison([pair], (first, last, within)).go_through(streams)
-        if (pair.times, pair.noted) != exact(*sides, within, first, last):
-            wrong.append((sides, within, first, last, pair.times, pair.noted, exact(*sides, within, first, last)))
+        found, wanted = (pair.times, pair.noted, pair.shortest), exact(*sides, within, first, last)
+        wrong += [(sides, within, first, last, found, wanted)] * (found != wanted)
     yield "random cases: %s" % wrong[:1], not wrong
 
 
-def swapped(line):
-    """A line on two captures in the other order."""
-    line = re.sub(r"only in ([AB])", lambda side: "only in " + "AB"[side.group(1) == "A"], line)
-    parts = [re.sub(r"^(.*: )([^,]+), ([^,(]+?)( \(.*\))?$", r"\1\3, \2\4", part) for part in line.split(", last")]
-    return ", last".join(parts)
+def one_form(program, folder, compare):
+    """A capture is the same as what vcdedit writes of it, however its items are spelled."""
+    for number in range(60):
+        capture = Capture(Chance(number), farthest=0)
+        store(folder, "A", text=capture.text)
+        run([program, "-i", "A", "--script", "/dev/null", "-o", "B"], cwd=folder)
+        words = ["--from=%d" % (capture.end // 3), "--to=%d" % (capture.end // 2), "--within=1"][: number % 4]
+        found = compare(*words, "A", "B")
+        yield "the one form of capture %d: %s" % (number, found), found[0] == 0
 
 
 def pairs(folder, compare):
-    """Each pair in both orders."""
+    """Each pair, and as many lines in the other order."""
     for name, (first, second, wanted) in PAIRS.items():
         lines = wanted.split("|")
-        for captures, said in (((first, second), lines), ((second, first), map(swapped, lines))):
-            for path, capture in zip("AB", captures):
-                store(folder, path, text=text(*capture))
-            found = compare("A", "B")
-            told = [*map(re.escape, said), r"lines that differ: %d; the same: [01] signals? up to tick \d+\n"]
+        for path, capture in zip("AB", (first, second)):
+            store(folder, path, text=text(*capture))
+        for words, said in (("AB", map(re.escape, lines)), ("BA", [".*"] * len(lines))):
+            found = compare(*words)
+            told = [*said, r"lines that differ: %d; the same: [01] signals? up to tick \d+\n"]
             right = re.fullmatch("\n".join(told) % len(lines), found[1])
             yield "%s: %s" % (name, found), right and (found[0], found[2]) == (1, "")
     for *captures, wanted in SAME:

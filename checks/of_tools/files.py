@@ -8,6 +8,7 @@ import resource
 import signal
 import subprocess
 import sys
+import tempfile
 import time
 import unittest.mock
 
@@ -19,32 +20,20 @@ from common import TOP, amend_of, run, store, store_program, toggling
 CAPTURES = ["examples/*/capture.vcd", "cases/captures/*.vcd", "cases/*/*/capture.vcd"]
 # A text, a timescale, and the tick, or None where it is refused.
 TIMES = [
-    ("9223372036854775807", "none", 9223372036854775807),
-    ("92233720368547758070", "none", None),
-    ("1us", "none", None),
-    ("1.5us", "1 ps", 1500000),
-    ("1.0001us", "1 ns", None),
-    ("922337203685.4775807s", "100 ns", 9223372036854775807),
-    ("25ns", "10 ns", None),
-    ("1e3", "1 ns", None),
-    ("\N{ARABIC-INDIC DIGIT ONE}", "1 ns", None),
-    ("18446744073709551614", "none", 2**64 - 2),
-    ("18446744073709551615", "none", None),
-    ("1 us", "1 ns", None),
-    ("00000000000000000000001us", "1 ns", 1000),
+    ("9223372036854775807", "none", 2**63 - 1), ("92233720368547758070", "none", None), ("1us", "none", None),
+    ("1.5us", "1 ps", 1500000), ("922337203685.4775807s", "100 ns", 2**63 - 1), ("25ns", "10 ns", None),
+    ("18446744073709551614", "none", 2**64 - 2), ("18446744073709551615", "none", None),
+    ("18446744073709551600s", "100 s", 184467440737095516), ("00000000000000000000001us", "1 ns", 1000),
+    ("0" * 5000 + "7", "none", 7), ("1.000000000000000s", "1 s", 1),
+    *((text, "1 ns", None) for text in ["", *"1e3 .5us 5.us 1.5 +5 1US 1.0001us 0.5ns 1.0000000000000000s".split()]),
+    *((text, "1 ns", None) for text in ["1 us", "\N{ARABIC-INDIC DIGIT ONE}", "9" * 5000]),
 ]
 # A pattern, a name, and whether it is meant.
 MATCHES = [
-    ("tb.q[7:0]", b"tb.q[7:0]", True),
-    ("tb.q[7]*", b"tb.q[7][1:0]", True),
-    ("tb.q[7]*", b"tb.q7", False),
-    ("tb.q[0-9]", b"tb.q7", False),
-    ("tb.[!q]", b"tb.r", False),
-    ("tb.[?q]*", b"tb.[\nq].r", True),
-    ("*[-1:0]", b"tb.q[-1:0]", True),
-    ("tb.q", b"tb.q[7:0]", False),
-    ("tb.?", b"tb.\xff", True),
-    ("TB.*", b"tb.q", False),
+    ("tb.q[7:0]", b"tb.q[7:0]", True), ("tb.q[7]*", b"tb.q[7][1:0]", True), ("tb.q[7]*", b"tb.q7", False),
+    ("tb.q[0-9]", b"tb.q7", False), ("tb.[!q]", b"tb.r", False), ("tb.[?q]*", b"tb.[\1q].r", True),
+    ("tb.??**", b"tb.\xc3\xa9", True), ("", b"a", False), ("*[-1:0]", b"tb.q[-1:0]", True),
+    ("tb.q", b"tb.q[7:0]", False), ("tb.?", b"tb.\xff", True), ("tb.q?", b"tb.q", False), ("TB.*", b"tb.q", False),
 ]
 DECLARED = b"$var wire 1 ! a $end $enddefinitions $end #0 1! #5\n"
 # What follows declarations of the kept `!` and `"` and of the skipped `#`, and how often each kind of loss is in it.
@@ -71,28 +60,19 @@ NEAR = [
      ["tb.dut.DATA[3:0]", "tb.data[7:0]", "tb.dut.dat"]),
     ("bench.rx", ["bench.scl", "a.b", "bench.sda"], ["bench.scl", "bench.sda"]),
     ("clkk", ["a.clk", "a.b"], ["a.clk"]),
-    ("q", ["a.b"], []),
+    ("*TAGE1*", ["a.b", "a.u.data", "a.u.stage1_q"], ["a.u.stage1_q"]),
+    ("rx", ["a.b", "tb.uart_rx_i"], ["tb.uart_rx_i"]), ("q", ["a.b"], []),
 ]
 TOOLS = ["vcdedit-apply", "vcdedit-compare", "vcdedit-table", "vcdedit-view"]
-UNLIMITED = '#!/bin/sh\nulimit -S -v unlimited\nexec %s "$@"\n'
+LIMITED = '#!/bin/sh\nulimit -S -v %s\nexec %s "$@"\n'
 # The first bytes of a file, and a word of what it is said to be.
 OTHERS = [
-    (b"\x1f\x8b\x08\x00", "gzip"),
-    (b"BZh91AY&SY", "bzip2"),
-    (b"\xfd7zXZ\x00", "xz"),
-    (b"PK\x03\x04\x14\x00", "zip"),
-    (b"\x28\xb5\x2f\xfd\x20", "zstd"),
-    (b"\x13\x80\x00\x01", "LXT2"),
-    (b"VZ\x00\x01", "VZT"),
-    (b"GHDLwave\n\x10", "GHW"),
-    (b"\xef\xbb\xbf" + DECLARED, "byte order mark"),
-    (DECLARED.decode().encode("utf-16"), "UTF-16"),
-    (DECLARED.decode().encode("utf-16-be"), "UTF-16"),
-    (bytes([0] * 7 + [1, 0x49, 0, 0]), "FST"),
-    (b"META samplerate: 1\n" + DECLARED, "sigrok"),
-    (b"$var port [7:0] <0 data $end\n", "extended"),
-    (b"", "empty"),
-    (DECLARED, None),
+    (b"\x1f\x8b\x08\x00", "gzip"), (b"BZh91AY&SY", "bzip2"), (b"\xfd7zXZ\x00", "xz"), (b"PK\x03\x04\x14\x00", "zip"),
+    (b"\x28\xb5\x2f\xfd\x20", "zstd"), (b"\x13\x80\x00\x01", "LXT2"), (b"VZ\x00\x01", "VZT"),
+    (b"GHDLwave\n\x10", "GHW"), (b"\xef\xbb\xbf" + DECLARED, "byte order mark"),
+    (DECLARED.decode().encode("utf-16"), "UTF-16"), (DECLARED.decode().encode("utf-16-be"), "UTF-16"),
+    (bytes([0] * 7 + [1, 0x49, 0, 0]), "FST"), (b"META samplerate: 1\n" + DECLARED, "sigrok"),
+    (b"$var port [7:0] <0 data $end\n", "extended"), (b"", "empty"), (DECLARED, None),
 ]
 
 
@@ -105,8 +85,11 @@ def refused(call, *words):
 
 
 def losses_of(path, listing):
+    """The variables that are left out, and what is besides."""
     with open(path, "rb") as file:
-        return vcd_files.losses_of(file, listing)
+        words = vcd_files.words_of(file)
+        codes, skipped = vcd_files.variables_in(words, listing)
+        return skipped, vcd_files.losses_of(words, dict(zip(codes, codes)))
 
 
 def listed(program, path):
@@ -121,6 +104,7 @@ def starts_and_ends(folder, tool):
     for text, status, told in (
         ("import os, signal; os.kill(os.getpid(), signal.SIGINT)", -signal.SIGINT, ""),
         ("raise MemoryError", 5, "MemoryError\n"),
+        ("raise ImportError('failed to map segment')", 5, "segment\n"),
         ("raise ValueError('seen')", 4, "ValueError: seen\n"),
     ):
         store(folder, "fractions.py", text=text)
@@ -132,20 +116,26 @@ def starts_and_ends(folder, tool):
 
 
 def without_memory(program, folder):
-    """A comparison of a file with itself, in any memory: it never says that something differs."""
-    path = store(folder, "long", text=toggling(5000))
-    environment = {**os.environ, "VCDEDIT": store_program(folder, "program", text=UNLIMITED % program)}
+    """Each tool in ever less memory, and with programs in ever less. It ends as in ample memory, or with status 5."""
+    path, line = store(folder, "long", text=toggling(5000)), "uart x 2 8 none 1"
+    words = {"apply": ["--dry-run", store(folder, "script", text="invert x\n"), path], "table": [path, line],
+             "compare": ["--strict", path, path], "view": ["-o", os.path.join(folder, "v.vcd"), path, line]}
+    environment = {**os.environ, "TMPDIR": folder}
 
-    def limited(megabytes, *words):
+    def limited(tool, megabytes, kilobytes, *words):
+        for name, path in (("VCDEDIT", program), ("VCDEDIT_AMEND", amend_of(program))):
+            environment[name] = store_program(folder, name, text=LIMITED % (kilobytes, path))
         limit = lambda: resource.setrlimit(resource.RLIMIT_AS, (megabytes << 20, resource.RLIM_INFINITY))
-        return run([os.path.join(TOP, "tools/vcdedit-compare"), *words], env=environment, preexec_fn=limit)
+        return run([os.path.join(TOP, "tools/vcdedit-" + tool), *words], env=environment, preexec_fn=limit)
 
-    # With less, Python does not begin.
-    least, found = next(megabytes for megabytes in range(10, 90) if limited(megabytes, "--version")[0] == 0), set()
-    for megabytes in [*range(least, least + 6), least + 60]:
-        done = limited(megabytes, "--strict", path, path)
-        found.add((done[0], "differ" in done[1] or "Traceback" in done[2]))
-    yield "statuses without memory: %s" % found, found == {(0, False), (5, False)}
+    for tool in words:
+        # With less, Python does not begin.
+        least = next(size for size in range(10, 90) if limited(tool, size, "unlimited", "--version")[0] == 0)
+        limits = [(least + more, "unlimited") for more in (*range(6), 60)]
+        limits += [(1 << 20, 1 << size) for size in range(10, 20)]
+        ends = [limited(tool, *limit, *words[tool]) for limit in limits]
+        found = {(end[0], "differ" in end[1] or "Traceback" in end[2]) for end in ends}
+        yield "statuses of %s without memory: %s" % (tool, found), found == {(0, False), (5, False)}
 
 
 def on_a_terminal(program, folder):
@@ -175,7 +165,15 @@ def near_names():
         yield "near %s" % name, vcd_messages.nearest(name, names) == wanted
     names, began = ["top.u%d.stage%d_q[7:0]" % (place % 50, place) for place in range(65536)], time.process_time()
     found = vcd_messages.nearest("top.u7.stge60007_q", names)
-    yield "the near of many: %s" % found, found[0] == names[60007] and time.process_time() - began < 2
+    yield "the near of many: %s" % found, found[0] == names[60007] and time.process_time() - began < 1
+    listing = vcd_runs.Listing("none", 9, 0, [vcd_runs.Signal(8, b"wire", os.fsencode(name)) for name in names])
+    lines = [b"derive a and " + b" ".join(b"top.u7.stge%d%d_q" % both for both in [(k, 1), (k, 2), (7, 7), (8, 8)])
+             for k in range(10)]
+    for most, is_over in ((2, False), (0, True)):
+        began, refused = time.process_time(), [(number, "NoSuchName") for number in range(1, 11)]
+        told = vcd_messages.told_refusals(refused, lines, listing, lambda: is_over)
+        near, seconds = len({line for line in told if "near names" in line}), time.process_time() - began
+        yield "the near of 22 names: %d in %.1f seconds" % (near, seconds), near == most and seconds < 1.5
 
 
 def not_built(folder):
@@ -197,9 +195,26 @@ def long_ones(program, folder):
             found = list(one.replies())
     yield "a script of %d bytes" % (9 * len(lines)), found == [(place, b"ok") for place in range(len(lines))]
     with open(store(folder, "word", text=b"x" * (200 * vcd_files.CHUNK) + b" y"), "rb") as file:
-        with unittest.mock.patch("os.pread", side_effect=os.pread) as reads:
-            words = list(vcd_files.words_of(file))
-    yield "a long word", [len(word) for word in words] == [200 * vcd_files.CHUNK, 1] and reads.call_count < 20
+        reads = unittest.mock.Mock(wraps=file)
+        words = list(vcd_files.words_of(reads))
+    yield "a long word", [len(word) for word in words] == [200 * vcd_files.CHUNK, 1] and reads.read.call_count < 20
+
+
+def dialect(amend, folder):
+    """A time and a pattern mean in the tools what they do in vcdedit-amend."""
+    for text, timescale, tick in TIMES:
+        time, scale = refused(vcd_files.time_of, text), "$timescale %s $end " % timescale * (timescale != "none")
+        capture = store(folder, "c", text=scale + "$var wire 1 ! a $end $enddefinitions $end #%d" % (2**63 - 1))
+        status, part, _ = run([amend, capture, "--from", text])
+        wanted = 2 if not time else 1 if tick is None or tick >= 2**63 else 0
+        are_one = (status, "ticks %s to" % tick in part) == (wanted, wanted == 0)
+        found = time and refused(vcd_files.ticks_of, time, timescale)
+        yield "the time %s at %s: %s, %d" % (text, timescale, found, status), are_one and found == tick
+    for pattern, name, meant in MATCHES:
+        capture = store(folder, "c", text=b"$var wire 1 ! %s $end $enddefinitions $end #5" % name)
+        in_program = run([amend, capture, "--keep", pattern, "-o", "/dev/null"])[0] == 0
+        found = vcd_files.matcher(pattern)(name) is not None, in_program
+        yield "the pattern %s: %s" % (pattern, found), found == (meant, meant)
 
 
 def check(program, folder):
@@ -208,6 +223,11 @@ def check(program, folder):
     yield from without_memory(program, folder)
     yield from on_a_terminal(program, folder)
     yield from near_names()
+    fails = unittest.mock.patch("shutil.copyfileobj", side_effect=OSError(28, "full"))
+    with fails, unittest.TestCase().assertRaises(vcd_files.Trouble) as ended:
+        vcd_files.opened("/dev/null")
+    told, wanted = str(ended.exception), "/dev/null or its copy in %s: full" % tempfile.gettempdir()
+    yield "a copy that fails: %s" % told, told == wanted
     yield from not_built(folder)
     yield from long_ones(program, folder)
     paths = {path for pattern in CAPTURES for path in glob.glob(os.path.join(TOP, pattern))}
@@ -218,16 +238,13 @@ def check(program, folder):
         yield "what is left out of " + os.path.relpath(path, TOP), is_named
     path = store(folder, "named", text=NAMED)
     listing = listed(program, path)
-    yield "names of what is left out", losses_of(path, listing)[0].names == SKIPPED
+    yield "names of what is left out", losses_of(path, listing)[0] == SKIPPED
     yield "another count than the program's", refused(losses_of, path, listing._replace(skipped=3)) is None
     for text, wanted in LOST:
-        rows = losses_of(store(folder, "lost", text=NAMED + text), listing)[1:]
-        found = {row.what.split("%")[0].split()[0]: row.count for row in rows}
+        rows = losses_of(store(folder, "lost", text=NAMED + text), listing)[1]
+        found = {row.what.split("%")[0].split()[0]: row.count for row in rows if row.count}
         yield "lost of %s: %s" % (text[:40], found), found == wanted
-    for text, timescale, tick in TIMES:
-        yield "the time %s at %s" % (text, timescale), refused(vcd_files.ticks_of, text, timescale) == tick
-    for pattern, name, meant in MATCHES:
-        yield "the pattern %s" % pattern, (vcd_files.matcher(pattern)(name) is not None) == meant
+    yield from dialect(amend_of(program), folder)
     for text, what in OTHERS:
         found = vcd_files.what_else(text[: vcd_files.CHUNK])
         yield "a file that is %s" % what, found is None if what is None else found is not None and what in found[0]

@@ -5,7 +5,7 @@ import re
 import resource
 import sys
 
-from common import amend_of, module_of, run, store, text_at
+from common import TOP, amend_of, module_of, run, store, text_at
 
 SIZE = 2000000
 BYTES_OF_CHANGE = 272
@@ -79,6 +79,9 @@ def forecasts(program, folder):
     ample = run(words)
     yield "ample memory: %s" % (ample,), ample == (0, "1\n", "")
     limit = lambda: resource.setrlimit(resource.RLIMIT_AS, (LIMIT, resource.RLIM_INFINITY))
+    compare = [os.path.join(TOP, "tools/vcdedit-compare"), "--from=%d" % (CHANGES - 9), capture, capture]
+    done = run(compare, preexec_fn=limit, env={**os.environ, "VCDEDIT_AMEND": amend_of(program)})
+    yield "a comparison in little memory: %s" % (done,), done[0] == 0
     status, replies, errors = run(words, preexec_fn=limit)
     found = re.fullmatch(FORETOLD, errors)
     yield "little memory: status %d, %s" % (status, errors), (status, replies, bool(found)) == (5, "", True)

@@ -5,7 +5,7 @@ import json
 import os
 import sys
 
-from common import EXAMPLES, TOP, module_of, run, store
+from common import EXAMPLES, TOP, amend_of, module_of, run, store
 
 TOOL = os.path.join(TOP, "tools/vcdedit-table")
 I2C, I2C_LINE = os.path.join(EXAMPLES, "i2c/capture.vcd"), "i2c bench.scl bench.sda"
@@ -29,23 +29,21 @@ TIMES = [
 ]
 SPI = "$timescale 10 ns $end $var wire 1 ! c $end $var wire 1 \" d $end $enddefinitions $end\n#0 0! 1\"\n" + "".join(
     "#%d %d!\n%s" % (tick, tick % 2, "#%d x\"\n" % (tick + 1) if tick == 9 else "") for tick in range(1, 12)) + "#20\n"
-SPI_ROWS = """line  decoder  first  last  first_us  last_us  what       mosi  doubt
+SPI_ROWS = """line  decoder  first  last  first_us  last_us  what       mosi
 1     spi      1      7     0.01      0.07     word       0xf
-1     spi      9      11    0.09      0.11     partial 2        ?x
+1     spi      9      11    0.09      0.11     partial 2
 2     spi      1      3     0.01      0.03     word       0x3
 2     spi      5      7     0.05      0.07     word       0x3
-2     spi      9      11    0.09      0.11     word       ?     ?x
+2     spi      9      11    0.09      0.11     word       ?
 """
 SPI_LINES = ["spi c d - - 0 4 msb", "spi c d - - 0 2 msb"]
-DOUBT = "vcdedit-table: line %d: spi: d is x at 10-20: edges and bits there are lost\n"
+REMARK = "spi: MOSI is x or z at 10-20: edges and bits there are lost"
 # A capture, a line, and what is told of it beside the table.
 UART, GLITCHES = (os.path.join(EXAMPLES, name, "capture.vcd") for name in ("sigrok-uart", "glitches"))
 RATE = "line 1: uart: is %s a baud rate? BIT is how many ticks a bit lasts: %s"
 TOLD = [
     (UART, "uart libsigrok.rx 115200 8 none 1", RATE % ("115200", "78125/9")),
-    (GLITCHES, "uart bench.rx 19200 8 none 1", RATE % ("19200", "625/12")),
     (UART, "uart libsigrok.rx 9600 8 none 1", ""),
-    (UART, "uart libsigrok.rx 115201 8 none 1", ""),
     (UART, "value libsigrok.rx 0", "no line decodes: write uart, spi or i2c, as in 'i2c bench.scl bench.sda'"),
 ]
 # Words, and the status and a part of what is told. There is no table then.
@@ -55,10 +53,9 @@ REFUSED = [
     ([GLITCHES, "force bench.rx 3 5 0x2F"], 1, "BadValueText\n    0x2F: write 101111\n"),
     ([I2C, "i2c bench.scl bench.sd"], 1, "bench.sd: NoSuchName\n    bench.sd: near names are bench.sda"),
     ([I2C, *I2C_LINE.split()], 1, "\n    quote each line: vcdedit-table CAPTURE"),
-    ([I2C, I2C_LINE, "--csv", "--json"], 2, "not allowed with"),
-    ([I2C, I2C_LINE, "--script", "c"], 2, "--script, or words"),
+    ([I2C, I2C_LINE, "--csv", "--json"], 2, "not allowed with"), ([I2C, I2C_LINE, "--script", "c"], 2, "or words"),
     (["c", "list"], 3, "c: line 1: frob: UnexpectedWord"),
-    (["none", "list"], 4, "none: No such file"),
+    *((words, 4, "vcdedit-table: none: No such file") for words in (["none", "list"], ["c", "--script", "none"])),
 ]
 
 
@@ -78,7 +75,7 @@ def transfer_text(row):
 
 
 def check(program, folder):
-    environment = {**os.environ, "VCDEDIT": program}
+    environment = {**os.environ, "VCDEDIT": program, "VCDEDIT_AMEND": amend_of(program)}
 
     def table(*words, given=None):
         return run([TOOL, *words], cwd=folder, env=environment, input=given)
@@ -87,7 +84,7 @@ def check(program, folder):
         rows = json.loads(table("-", "--json", "i2c c d", given=bus(text))[1])
         found = [transfer_text(row) for row in rows]
         yield "the bus %s: %s" % (text, found), found == wanted
-        yield "doubt on the bus %s" % text, any(row["doubt"] for row in rows) == ("x" in text)
+        yield "remarks on the bus %s" % text, all((row["remarks"] != "") == ("x" in text) for row in rows)
     status, shown, errors = table(I2C, "--csv", I2C_LINE)
     csv_rows = [{name: text for name, text in row.items() if text} for row in csv.DictReader(shown.splitlines())]
     rows = json.loads(table(I2C, "--json", I2C_LINE)[1])
@@ -97,7 +94,9 @@ def check(program, folder):
     store(folder, "script", text="\n".join(["# asks", SPI_LINES[0], "list"]))
     yield "the names of none", table("-", "--script", "script", given="$enddefinitions $end")[0] == 1
     found = table("-", *SPI_LINES, given=SPI)
-    yield "aligned: %s" % (found,), found == (0, SPI_ROWS, DOUBT % 1 + DOUBT % 2)
+    told = "".join("vcdedit-table: line %d: %s\n" % (number, REMARK) for number in (1, 2))
+    yield "aligned: %s" % (found,), found == (0, SPI_ROWS, told)
+    yield "remarks in a file", table("-", "--csv", *SPI_LINES, given=SPI)[1].count("," + REMARK) == 5
     yield "no rows", [table(I2C, *form, "list")[1] for form in ([], ["--json"])] == ["", "[\n]\n"]
     for capture, line, told in TOLD:
         found = table(capture, line)

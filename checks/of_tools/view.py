@@ -1,4 +1,4 @@
-"""What is decoded, as it is shown: the rows, doubts, the written file, what GTKWave is to show, viewers."""
+"""What is decoded, as it is shown: the rows, remarks, the written file, what GTKWave is to show, viewers."""
 
 import contextlib
 import os
@@ -7,8 +7,7 @@ import signal
 import sys
 import unittest.mock
 
-import vcd_decoded
-from common import EXAMPLES, TOP, load, load_if_there, module_of, run, store, store_program, tools_missing
+from common import EXAMPLES, TOP, amend_of, load, load_if_there, module_of, run, store, store_program, tools_missing
 
 TOOL = os.path.join(TOP, "tools/vcdedit-view")
 I2C, I2C_LINE = os.path.join(EXAMPLES, "i2c/capture.vcd"), "i2c bench.scl bench.sda"
@@ -21,16 +20,16 @@ DECODED = {
     "sigrok-cli": "spi libsigrok.clk libsigrok.mosi libsigrok.miso libsigrok.cs 0 8 msb",
 }
 NO_ROW = "line %d: %s: no row: a later line edits what it decodes (see --before)"
-LOST = ": edges and bits there are lost"
-NEVER_FALLS = "line %d: uart: %s never falls from 1 to 0 at 0-%d: no frame begins"
-# Options, and the first tick, the ticks and the points of what GTKWave is to show of a line with one row.
+# Options, and the first tick, the ticks in 200 points and the size of what GTKWave is to show of a line with one row.
+# As it ends at tick 255, the last begins earlier than is asked.
 WINDOWS = [
-    ([], 0, 255, (1000, 186)),
-    (["--from", "100us", "--to", "120", "--size", "1600"], 100, 20, (1600, 186)),
-    (["--from", "200", "--size", "800x300"], 200, 55, (800, 300)),
+    ([], 0, 62, (1000, 186)),
+    (["--from", "100us", "--to", "120", "--size", "1600"], 100, 3, (1600, 186)),
+    (["--from", "200", "--size", "800x300"], 194, 18, (800, 300)),
 ]
 ODD = "GTKWave may not show: %s"
-# Names, changes and lines of a capture of one bit a signal; what is told; the rows: tick and text of each change.
+# Names, changes and lines of a capture of one bit a signal; what is told besides remarks; the rows: tick and text of
+# each change.
 ROWS = {
     "frames that touch, the last up to the end": (
         "r", "1! #10 0! #28 1! #30 0! #48 1! #49", ["uart r 2 8 none 1"], [],
@@ -38,11 +37,6 @@ ROWS = {
     "frames of one tick, the last at the end": (
         "c d", '0! 1" #3 1! #5 0! #6 1!', ["spi c d - - 0 1 msb"], [],
         {"spi": "0 -|3 word_mosi_0x1|4 -|6 word_mosi_0x1"}),
-    "a word that begins at once": (
-        "c", "x! #0 0! #1 1! #2 0! #3 1! #9", ["spi c - - - 0 2 msb"], [], {"spi": "0 -|1 word|4 -"}),
-    "two decoders on one line": (
-        "r", "1! #10 0! #28 1! #40", ["uart r 2 8 none 1", "uart r 3 6 none 1"], [],
-        {"uart": "0 -|10 byte_0x00|30 -", "uart_2": "0 -|10 byte_0x20|33 -"}),
     "nothing is found": ("r", "1! #10 0! #11 1! #40", ["uart r 8 8 none 1"], [], {"uart": "0 -"}),
     "a decoder among edits": (
         "r", "0! #10 1! #28 0! #40", ["invert r", "uart r 2 8 none 1", "invert r"], [NO_ROW % (2, "uart")], {}),
@@ -54,40 +48,18 @@ ROWS = {
         {"uart": "0 -|10 byte_0x00|30 -", "uart_2": "0 -|10 byte_0x00|30 -"}),
     "a decoder of a signal that gets another place": (
         "r c", '1! 1" #10 0! 0" #28 1! 1" #40', ["uart @1 2 8 none 1", "remove r"], [NO_ROW % (1, "uart")], {}),
-    "a decoder of a signal that gets another name": (
-        "r", "1! #10 0! #28 1! #40", ["uart r 2 8 none 1", "rename r q"], [NO_ROW % (1, "uart")], {}),
     "a cut after a decoder": (
-        "r", "1! #10 0! #28 1! #40", ["uart r 2 8 none 1", "cut 0 5", "uart r 2 8 none 1"],
-        [NO_ROW % (1, "uart")],
+        "r", "1! #10 0! #28 1! #40", ["uart r 2 8 none 1", "cut 0 5", "uart r 2 8 none 1"], [NO_ROW % (1, "uart")],
         {"uart": "0 -|5 byte_0x00|25 -"}),
     "x in a frame, and beside it": (
-        "r", "1! #4 x! #6 1! #10 0! #15 x! #16 0! #28 1! #35 z! #39 x! #40", ["uart r 2 8 none 1"],
-        ["line 1: uart: r is x or z at 4-5, 15, 35-38, 39-40" + LOST],
-        {"uart": "0 -|4 ?x|6 -|10 ?x_unknown|30 -|35 ?x"}),
-    "x from before a frame into it": (
-        "c d", '0! x" #3 1! #5 0! 1" #6 1! #7 0! #9', ["spi c d - - 0 2 msb"], ["line 1: spi: d is x at 0-4" + LOST],
-        {"spi": "0 ?x|3 ?x_word_mosi_?|7 -"}),
-    "more than ten places": (
-        "r", " ".join("%s! #%d" % ("1x"[tick % 2], tick + 1) for tick in range(22)), ["uart r 2 8 none 1"],
-        ["line 1: uart: r is x at 1, 3, 5, 7, 9, 11, 13, 15, 17, 19, and 1 more" + LOST, NEVER_FALLS % (1, "r", 22)],
-        {"uart": "0 ?x"}),
-    "a line that does not fall from 1": (
-        "r", "0! #10 1! #28 x! #30 0! #40", ["uart r 2 8 none 1"],
-        ["line 1: uart: r is x at 28-29" + LOST, NEVER_FALLS % (1, "r", 40)], {"uart": "0 ?x"}),
+        "r", "1! #4 x! #6 1! #10 0! #15 x! #16 0! #28 1! #35 z! #39 x! #40", ["uart r 2 8 none 1"], [],
+        {"uart": "0 -|10 unknown|30 -"}),
     "z of I2C is high": (
         "c d", 'z! z" #2 0" #4 0! #6 z! #8 z" #9', ["i2c c d"], [],
         {"i2c": "0 -", "i2c_conditions": "0 -|2 start|8 stop"}),
-    "x of I2C": (
-        "c d", '1! 1" #2 0" #4 x! #6 1! #8 1" #10', ["i2c c d"], ["line 1: i2c: c is x at 4-5" + LOST],
-        {"i2c": "0 -|4 ?x|6 -", "i2c_conditions": "0 -|2 start|8 stop"}),
-    "one line for two": (
-        "c d", '0! x" #3 1! #5 0! 1" #6 1! #9', ["spi c d d - 0 2 msb"], ["line 1: spi: d is x at 0-4" + LOST],
-        {"spi": "0 ?x|3 ?x_word_mosi_?_miso_?|7 -"}),
     "names that are taken": (
         "decoded.uart decoded.uart_3", '1! 1" #9', ["uart @0 2 8 none 1", "uart @1 2 8 none 1"],
-        [NEVER_FALLS % (1, "decoded.uart", 9), NEVER_FALLS % (2, "decoded.uart_3", 9),
-         ODD % "decoded.uart, decoded.uart_3"],
-        {"uart_2": "0 ?x", "uart_4": "0 ?x"}),
+        [ODD % "decoded.uart, decoded.uart_3"], {"uart_2": "0 -", "uart_4": "0 -"}),
 }
 # Declarations, and the names that GTKWave 3.3 has for them.
 NAMES = {
@@ -102,33 +74,27 @@ BEFORE = {
     ("depth 5", UART_LINE): ("rx uart", "before.rx uart rx"),
     ("deglitch bench.rx 3", UART_LINE): ("rx uart", "before.rx rx uart"),
     ("derive n not bench.rx", "uart bench.n 10 8 none 1"): ("n uart rx", "before.rx n uart rx"),
-    ("derive n not bench.rx",): ("rx n", "before.rx rx n"),
     ("rename @0 tx",): ("tx", "before.rx tx"),
     (): ("rx", "before.rx rx"),
 }
 # Words, and the status and a part of what is told. Nothing is written then.
 REFUSED = [
     ([I2C, "i2c bench.scl bench.sd", "frob"], 1, "bench.sd: NoSuchName\n    bench.sd: near names are bench.sda"),
-    ([I2C, "list", "frob"], 1, "line 2: frob: UnknownCommand"),
     ([I2C, "--script", "more"], 1, "    and 2 more"),
-    ([I2C, "--script", "more", "list"], 2, "--script, or words"),
-    ([I2C, "-o", "v"], 2, "ends in .vcd"),
-    (["c.vcd", "-o", "linked.vcd"], 2, "linked.vcd would be written, and is another file of this command"),
-    (["-", "-o", "c.vcd"], 2, "c.vcd would be written, and"),
-    (["k.gtkw", "-o", "k.vcd"], 2, "k.gtkw would be written, and"),
-    (["c.vcd", "-o", "c.vcd"], 2, "c.vcd would be written, and"),
-    (["p.png", "--picture", "p.png"], 2, "p.png would be written, and"),
-    ([I2C, "--script", "s.vcd", "-o", "./s.vcd"], 2, "s.vcd would be written, and"),
-    ([I2C, "-o", "k.vcd", "--picture", "p.png"], 2, "k.gtkw would be written, and"),
-    ([I2C, "--from", "411"], 2, "--from: tick 411 is past the last that is shown, 410"),
+    ([I2C, "-o", "v"], 2, "-o: v does not end in .vcd"),
+    *(([I2C, "-o", name + ".vcd"], 4, "vcdedit-view: %s: is no regular file\n" % told)
+      for name, told in (("folder", "folder.vcd"), ("to_pipe", "to_pipe.vcd"), ("pipe", "pipe.gtkw"))),
+    ([I2C, "-o", "fixed.vcd"], 4, "vcdedit-view: fixed.vcd: is write-protected\n"),
+    ([I2C, "--picture", "to_pipe.png"], 4, "vcdedit-view: to_pipe.png: is no regular file\n"),
+    *((words.split(), 2, told + " would be written, and is another file of this command") for words, told in (
+        ("c.vcd -o linked.vcd", "linked.vcd"), ("- -o c.vcd", "c.vcd"), ("k.gtkw -o k.vcd", "k.gtkw"),
+        ("c.vcd -o c.vcd", "c.vcd"), ("p.png --picture p.png", "p.png"),
+        ("c.vcd --script s.vcd -o ./s.vcd", "./s.vcd"), ("c.vcd -o k.vcd --picture p.png", "k.gtkw"))),
     ([I2C, "--from", "5", "--to", "4us"], 2, "--from: tick 5 is past the last that is shown, 4"),
     ([I2C, "--to", "0.5us"], 2, "0.5us is between tick 0 and the next"),
-    ([I2C, "--size", "50"], 2, "--size is a width"),
-    (["more"], 3, "more: line 1: frob: UnexpectedWord"),
-    (["none.vcd"], 4, "none.vcd: No such file"),
-    ([I2C, "-o", "none/v.vcd"], 2, "in a folder that is there"),
-    ([I2C, "--picture", "p.jpg"], 2, "--picture names a file that ends in .png"),
-    ([I2C, *I2C_LINE.split()], 1, "\n    quote each line: "),
+    (["more"], 3, "more: line 1: frob: UnexpectedWord"), (["none.vcd"], 4, "none.vcd: No such file"),
+    ([I2C, "--size", "50"], 2, "--size is a width"), ([I2C, "-o", "none/v.vcd"], 2, "there is no such folder"),
+    ([I2C, "--picture", "p.jpg"], 2, "--picture: p.jpg does not end in .png"),
     ([I2C], 4, "there is no gtkwave and no surfer: apt-get install gtkwave, or say in VCDEDIT_VIEWER"),
     ([I2C, "--picture", "p.png"], 4, "apt-get install gtkwave xvfb xauth"),
 ]
@@ -164,13 +130,20 @@ def rows_of(replies, end):
     return {name: "|".join("%d %s" % one for one in row.items() if one[0] <= end) for name, row in rows.items() if row}
 
 
-def rows(folder, view):
+def told_of(program, folder, capture, lines, more):
+    """What is told of a capture: the remarks of vcdedit-amend on some lines, and more."""
+    script = store(folder, "lines", text="\n".join(lines))
+    remarks = run([amend_of(program), capture, "--script", script], cwd=folder)[2].splitlines()
+    return "".join("vcdedit-view: %s\n" % line for line in [*remarks, *more])
+
+
+def rows(program, folder, view):
     for name, (names, changes, lines, told, wanted) in ROWS.items():
         store(folder, "c.vcd", text=text(names, changes))
         status, _, errors = view("c.vcd", "-o", "v.vcd", *lines)
         found = rows_in(os.path.join(folder, "v.vcd"))
         yield "%s: %s" % (name, found), status == 0 and found == wanted
-        yield "%s: %s" % (name, errors), errors == "".join("vcdedit-view: %s\n" % line for line in told)
+        yield "%s: %s" % (name, errors), errors == told_of(program, folder, "c.vcd", lines, told)
 
 
 def examples(program, folder, view):
@@ -218,29 +191,27 @@ def settings(program, folder, view):
         for words, wanted in zip(([], ["--before"]), both):
             status, said, errors = view(GLITCHES, *words, "-o", "v.vcd", *lines)
             found = " ".join(shown_in(folder)).replace("bench.", "").replace("decoded.", "")
-            told = "vcdedit-view: %s\n" % (NO_ROW % (1, "uart")) if lines[2:] and not words else ""
-            yield "%s %s: %s" % (words, lines, found), (status, found, errors) == (0, wanted, told)
+            told = told_of(program, folder, GLITCHES, lines, [NO_ROW % (1, "uart")] * bool(lines[2:] and not words))
+            yield "%s %s: %s, %s" % (words, lines, found, errors), (status, found, errors) == (0, wanted, told)
             rows_said = re.findall(r"^decoded\.(\w+)", said, flags=re.M)
             yield "%s %s: %s" % (words, lines, said), rows_said == re.findall(r"uart\S*", wanted)
     view(GLITCHES, "--before", "-o", "v.vcd", UART_LINE, "deglitch bench.rx 3", UART_LINE)
     store(folder, "script", text="value before.bench.rx 75\nvalue bench.rx 75\n")
     values = run([program, "-i", "v.vcd", "--script", "script"], cwd=folder)
     yield "the capture before: %s" % (values,), values[1] == "1\n0\n"
-    for words, begin, ticks, size in WINDOWS:
+    for words, begin, scale, size in WINDOWS:
         view(GLITCHES, "-o", "v.vcd", UART_LINE, *words)
         saved = load(folder, "v.gtkw").decode()
         zoom = float(re.search(r"^\*(\S+)", saved, flags=re.M).group(1))
         told = "[timestart] %d\n[size] %d %d\n" % (begin, *size)
-        yield "the window of %s: %s" % (words, saved), told in saved and 0.5 < ticks * 200 * 2 ** zoom / size[0] < 1
-    store(folder, "c.vcd", text="$scope module s:1 $end $scope module [s] $end\n" + text("a:b #h [x] a[3] q", "1!"))
+        yield "the window of %s: %s" % (words, saved), told in saved and int(2**-zoom) == scale
+    store(folder, "c.vcd", text="$scope module s:1 $end $scope module [s] $end\n" + text("a:b #h v*w -n a[3]", "1!"))
     errors = view("c.vcd", "-o", "v.vcd")[2]
-    yield "names that are told: " + errors, errors == "vcdedit-view: %s\n" % (ODD % "[s], a:b, #h, [x]")
+    yield "names that are told: " + errors, errors == "vcdedit-view: %s\n" % (ODD % "[s], a:b, #h, v*w, -n")
     store(folder, "c.vcd", text=text("r q", "1!"))
     view("c.vcd", "-o", "v.vcd", "--before", "rename r before.q")
     names = re.findall(r"\$(?:scope module|var wire 1 \S+) (\S+)", load(folder, "v.vcd").decode())
     yield "a name that is that of the scope: %s" % names, names == ["before.q", "q", "before_2", "r", "q"]
-    asked = [line for _, line in vcd_decoded.asked_of([b"i2c a b", b"invert a", b"shift b 3", *[b"i2c a b"] * 300])]
-    yield "a listing for many decoders", asked.count(b"list") == 2 and asked.count(b"changes a") == 302
     tool, old = module_of("tools/vcdedit-view"), store(folder, "old", text="old")
     with unittest.mock.patch("shutil.copyfile", side_effect=lambda _, path: store(path, text="part") and 1 / 0):
         with contextlib.suppress(ZeroDivisionError):
@@ -248,12 +219,36 @@ def settings(program, folder, view):
     yield "a copy that fails", load(old) == b"old" and not [name for name in os.listdir(folder) if "unfinished" in name]
 
 
+def programs(program, folder, view):
+    """A listing that a pipe does not hold, a capture that changes between two runs, and only one of the programs."""
+    many = "".join("$var wire 1 ! a_signal_of_many_%d $end\n" % place for place in range(3000))
+    store(folder, "many.vcd", text=many + "$enddefinitions $end #0 1! #9\n")
+    full = ["sh", "-c", 'exec "$@" > /dev/full', "sh"]
+    found = view(I2C, "-o", "v.vcd", I2C_LINE, before=full, PATH=os.environ["PATH"])
+    told = "vcdedit-view: standard output or %s/tmp: No space left on device\n" % folder
+    yield "a full standard output: %s" % (found,), found == (4, "", told)
+    yield "a listing that a pipe does not hold", view("many.vcd", "-o", "v.vcd", "--before", "invert @0")[0] == 0
+    writes = store_program(folder, "writes", text='#!/bin/sh\necho "#9" >> many.vcd\nexec %s "$@"\n' % program)
+    found = view("many.vcd", "-o", "w.vcd", "invert @0", VCDEDIT=writes)
+    told = "vcdedit-view: many.vcd: another program writes it: run again when that has ended\n"
+    yield "a capture that changes: %s" % (found,), found == (4, "", told)
+    notes = store_program(folder, "notes", text='#!/bin/sh\necho "first-look: a build" >&2\nexec %s "$@"\n' % program)
+    found = view(I2C, "-o", "v.vcd", I2C_LINE, VCDEDIT=notes, VCDEDIT_AMEND="none")
+    told = "vcdedit-view: no remarks on lines: there is no program none: say in VCDEDIT_AMEND where it is\n"
+    yield "first-look alone: %s" % (found,), found[:1] == (0,) and I2C_LINE in found[1] and found[2].startswith(told)
+
+
 def refusals(folder, view):
     store(folder, "more", text="frob\n" * 12)
+    os.mkdir(os.path.join(folder, "folder.vcd"))
     os.link(store(folder, "c.vcd", text=text("r", "1!")), os.path.join(folder, "linked.vcd"))
     for name in ("k.gtkw", "s.vcd"):
         os.symlink("c.vcd" if name == "s.vcd" else "p.png", os.path.join(folder, name))
     store(folder, "p.png", text=text("r", "1!"))
+    os.mkfifo(os.path.join(folder, "pipe.gtkw"))
+    for name in ("to_pipe.vcd", "to_pipe.png"):
+        os.symlink("pipe.gtkw", os.path.join(folder, name))
+    os.chmod(store(folder, "fixed.vcd", text=""), 0o444)
     for words, status, told in REFUSED:
         before = sorted(os.listdir(folder))
         with open(os.path.join(folder, "c.vcd")) as given:
@@ -296,12 +291,13 @@ def check(program, folder):
     os.mkdir(temporary)
     os.symlink(sys.executable, os.path.join(tools, "python3"))
 
-    environment = {**os.environ, "VCDEDIT": program, "VCDEDIT_VIEWER": "", "TMPDIR": temporary, "PATH": tools}
+    environment = {**os.environ, "VCDEDIT": program, "VCDEDIT_AMEND": amend_of(program), "VCDEDIT_VIEWER": ""}
+    environment.update(TMPDIR=temporary, PATH=tools)
 
-    def view(*words, stdin=None, **more):
-        return run([sys.executable, TOOL, *words], cwd=folder, stdin=stdin, env={**environment, **more})
+    def view(*words, stdin=None, before=(), **more):
+        return run([*before, sys.executable, TOOL, *words], cwd=folder, stdin=stdin, env={**environment, **more})
 
-    for part in (rows, refusals, viewers):
+    for part in (refusals, viewers):
         yield from part(folder, view)
-    yield from settings(program, folder, view)
-    yield from examples(program, folder, view)
+    for part in (rows, settings, examples, programs):
+        yield from part(program, folder, view)
