@@ -83,12 +83,7 @@ fn ticks_of(text: &str) -> Result<TickRange, Fail> {
 
 /// What a part of a file is: its end, how many signals it has, and the text of the part; or the
 /// line and the name of the fault.
-fn answer_of(
-    alloc: Global,
-    file: &[u8],
-    piece: usize,
-    choice: &OfKind,
-) -> Result<String, Fail> {
+fn answer_of(alloc: Global, file: &[u8], piece: usize, choice: &OfKind) -> Result<String, Fail> {
     let mut source = source_of(FakeReader::new(file, piece));
     match read_part(alloc, &mut source, choice) {
         Ok(loaded) => {
