@@ -5,6 +5,7 @@ Programs of our own stand for vcdedit-amend where a run that writes has to fail,
 
 import gzip
 import os
+import re
 import resource
 import signal
 import stat
@@ -168,6 +169,20 @@ def stays(program, folder):
     told = "%s: as it was: %s: no permission to write in this folder" % (path, place.folder)
     yield "a folder that is closed: %s" % (found,), found == ((4, False), (told,))
     yield "none has changed", {place.load(name) for name in ("A", "B", "fixed", "kept/A", "in/p")} == {LINE}
+
+
+def again(program, folder):
+    """A glob is named again with --backup. None is edited twice, and only what is left is named to go on."""
+    place = Folder(program, folder, "ABC")
+    place.run("script", "A", "--backup", ".orig")
+    place.store("C", "#0\n")
+    for words, what in ((["--dry-run"], "would be written"), ([], "written")):
+        found = place.run("script", "A", "B", "C", "--backup", ".orig", *words)
+        lines = ["A: as it was: %s/A.orig is there already" % place.folder, "B: %s: 1 ok" % what,
+                 "C: as it was: line 1: #0: UnexpectedWord", "1 %s, 2 not, status 4" % what]
+        goes_on = [] if words else ["vcdedit-apply: to go on, name only these: C"]
+        right = found[:2] == (4, lines) and re.findall(".*to go on.*", found[2]) == goes_on
+        yield "a glob %s: %s" % (words, found), right
 
 
 def explains(program, folder):
@@ -409,6 +424,7 @@ def ends(program, folder):
 
 
 def check(program, folder):
-    for part in (writes, stays, explains, answers, remarks, fails, ends, streams, interrupted, alone, without_memory):
+    parts = writes, stays, again, explains, answers, remarks, fails, ends, streams, interrupted, alone, without_memory
+    for part in parts:
         for name, right in part(program, os.path.join(folder, part.__name__)):
             yield "%s: %s" % (part.__name__, name), right
