@@ -172,17 +172,23 @@ def stays(program, folder):
 
 
 def again(program, folder):
-    """A glob is named again with --backup. None is edited twice, and only what is left is named to go on."""
+    """A glob is named again with --backup. No capture is edited twice, and no backup; what is left is named."""
     place = Folder(program, folder, "ABC")
     place.run("script", "A", "--backup", ".orig")
     place.store("C", "#0\n")
+    os.symlink("A.orig", place.folder + "/link")
     for words, what in ((["--dry-run"], "would be written"), ([], "written")):
-        found = place.run("script", "A", "B", "C", "--backup", ".orig", *words)
+        found = place.run("script", "A", "B", "C", "link", "--backup", ".orig", *words)
         lines = ["A: as it was: %s/A.orig is there already" % place.folder, "B: %s: 1 ok" % what,
-                 "C: as it was: line 1: #0: UnexpectedWord", "1 %s, 2 not, status 4" % what]
+                 "C: as it was: line 1: #0: UnexpectedWord", "link: as it was: is a backup: its name ends in .orig",
+                 "1 %s, 3 not, status 4" % what]
         goes_on = [] if words else ["vcdedit-apply: to go on, name only these: C"]
         right = found[:2] == (4, lines) and re.findall(".*to go on.*", found[2]) == goes_on
         yield "a glob %s: %s" % (words, found), right
+    os.rename(place.folder + "/link", place.folder + "/A.old")
+    found = place.run("script", "A.old", "--backup", ".old")
+    yield "a backup: %s" % (found,), found == (4, ["A.old: as it was: is a backup: its name ends in .old"], "")
+    yield "the backup is as it was", place.load("A.orig") == LINE
 
 
 def explains(program, folder):
