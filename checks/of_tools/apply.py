@@ -135,6 +135,13 @@ def writes(program, folder):
     warned = {**place.environment, "VCDEDIT_AMEND": warns}
     found = run([APPLY, "some", "C", "--keep-going"], cwd=place.folder, env=warned)
     yield "a run that tells of memory: %s" % (found,), (found[0], found[1].splitlines()) == (1, lines)
+    place.store("C", LINE)
+    run([amend_of(program), "C", "--script", "script", "--mark", "-o", "../marked"], cwd=place.folder)
+    found = place.run("script", "C", "--mark", "--dry-run"), place.load("C"), place.run("script", "C", "--mark")
+    told = (0, ["C: would be written: 1 ok"], ""), LINE, (0, ["C: written: 1 ok"], "")
+    marked = load_if_there(folder, "../marked", default=b"").decode()
+    right = found == told and "\nedit " + WRITTEN in marked == place.load("C")
+    yield "a mark: %s" % (found,), right
     odd = "\N{EURO SIGN} odd\n-name"
     place.store(odd, LINE)
     yield "an odd name", place.run("script", "./" + odd)[0] == 0 and place.load(odd) == wanted
