@@ -143,6 +143,11 @@ def state_of(path):
         return found.st_dev, found.st_ino, found.st_size, found.st_mtime_ns
 
 
+def is_protected(path):
+    """Whether a file is there and write-protected: to the superuser, too, by its mode."""
+    return os.path.exists(path) and not (os.access(path, os.W_OK) and os.stat(path).st_mode & 0o222)
+
+
 def has_writer(file):
     """Whether a program has a file open for writing, which the system tells of the caller's files on a local disk, or
     a tool has asked this before and not closed it yet."""

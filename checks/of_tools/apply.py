@@ -167,8 +167,10 @@ def stays(program, folder):
         (["A", "--to", "."], 4, "not written: %s/A is the capture, or no regular file" % place.folder),
         (["A", "--backup", "/b"], 4, "as it was: %s/A/b: Not a directory" % place.folder),
     ):
-        found = place.run("script", *words)
-        yield "%s: %s" % (words, found), found == (status, ["%s: %s" % (words[0], reason)], "")
+        for more in [[]] if "/b" in words else [[], ["--dry-run"]]:
+            found = place.run("script", *words, *more)
+            right = found == (status, ["%s: %s" % (words[0], reason)], "")
+            yield "%s: %s" % (words + more, found), right
     tool, path = module_of("tools/vcdedit-apply"), place.folder + "/A"
     work = tool.Work(tool.options_of([place.folder + "/script", path]))
     with unittest.mock.patch("os.access", return_value=False), unittest.mock.patch.object(work, "show") as show:
@@ -373,11 +375,11 @@ def alone(program, folder):
     yield "two runs at once: %s" % seen, seen == {(True, True)}
     place.store("A", LINE)
     with open(place.folder + "/A", "r+b"):
-        found = place.run("script", "A", "B")
-        told = "A: as it was: another program writes it: run again when that has ended"
-        lines = [told, "B: written: 1 ok", "1 written, 1 not, status 4"]
-        yield "another program: %s" % (found,), found[:2] == (4, lines)
-        yield "another that only asks", place.run("script", "A", "--dry-run")[0] == 0 and place.load("A") == LINE
+        for words, what in ((["--dry-run"], "would be written"), ([], "written")):
+            found = place.run("script", "A", "B", *words)
+            told = "A: as it was: another program writes it: run again when that has ended"
+            lines = [told, "B: %s: 1 ok" % what, "1 %s, 1 not, status 4" % what]
+            yield "another program: %s" % (found,), found[:2] == (4, lines) and place.load("A") == LINE
     with open(place.folder + "/A", "rb"):
         yield "another program that reads", place.run("script", "A") == (0, ["A: written: 1 ok"], "")
 
