@@ -1,3 +1,4 @@
 -- Worked cases.
 pub mod AmendedFiles
 pub mod EditedFiles
+pub mod OutputRemarks

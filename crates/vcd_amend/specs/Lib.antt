@@ -22,6 +22,7 @@ pub mod NewNames
 pub mod AmendRun
 pub mod AmendRunEnds
 pub mod MarkedRun
+pub mod OutputRemarks
 pub mod TakenRemarks
 pub mod AmendOnBytes
 pub mod inside

@@ -5,6 +5,7 @@ pub mod CutTicks
 pub mod declarations
 pub mod HeardNames
 pub mod NameHash
+pub mod OutputRemarks
 pub mod Running
 pub mod dry_running
 pub mod WithWaves

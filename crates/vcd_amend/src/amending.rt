@@ -13,11 +13,11 @@ ghost use Rattle.vcd_amend.specs.AmendmentContents.{amendment_contents};
 ghost use Rattle.vcd_amend.specs.RetimedCopy.{IsAmendedAfterCuts, is_cut_by};
 
 mod code_progress;
-mod code_uses;
-mod cut_amender;
+pub(crate) mod code_uses;
+pub(crate) mod cut_amender;
 mod due_changes;
 mod due_writing;
-mod file_amender;
+pub(crate) mod file_amender;
 mod held_changes;
 mod moments;
 mod value_changes;

@@ -15,7 +15,7 @@ ghost use Rattle.vcd_amend.specs.inside.coding.KeptSignals as spec;
 
 mod amended_codes;
 mod changed_waves;
-mod code_set;
+pub(crate) mod code_set;
 mod fates;
 mod fresh_codes;
 mod kept_signal;

@@ -19,6 +19,7 @@ ghost use Rattle.vcd_amend.specs.EditedText.{CutsInForceLeaveTicks, RetimedCaptu
 ghost use Rattle.vcd_amend.specs.EditedText.{AcceptedFileHasPieces, EditedTextMeansLastCapture};
 ghost use Rattle.vcd_amend.specs.EditedText.{NoCutLeavesPieces};
 ghost use Rattle.vcd_amend.specs.EditsInForce.{LinesInForceAskForEdits};
+ghost use Rattle.vcd_amend.specs.OutputRemarks.{EditedApartLeaveTheirCodes};
 
 /// If an amendment fits an accepted file, the amended file is accepted, and means the amended
 /// capture. As many variables are skipped as before, and they stand with their changes.
@@ -101,4 +102,10 @@ pub fn cuts_in_force_retime_files()
 /// The lines whose edits are in force, as a mark has them, ask in their order for these edits.
 pub fn lines_in_force_ask_for_edits()
     ensures { LinesInForceAskForEdits }
+{}
+
+/// A variable of which a remark says that it is not edited as another one of its code does share
+/// its code: a variable of the amended file has it, and it has another one itself.
+pub fn edited_variables_leave_their_codes()
+    ensures { EditedApartLeaveTheirCodes }
 {}

@@ -1,7 +1,7 @@
 //! A capture file amended by a script, in four passes over the file.
 
 ghost use Rattle.std.specs.Prelude.{◌≡◌, ◌≤◌, false, true, ℕ, List, Some, length, OnOk, IfOk};
-ghost use Rattle.std.specs.Prelude.{IfErr, IfSome, All};
+ghost use Rattle.std.specs.Prelude.{IfErr, IfSome, All, ◌==◌, not};
 ghost use Rattle.std.specs.Option.{ForSome};
 ghost use Rattle.std.specs.Io.KnownBytes.{Appends};
 ghost use Rattle.vcd_core.specs.CaptureContents.{contents};
@@ -22,6 +22,8 @@ ghost use Rattle.vcd_script.specs.declared.running.run_error.RunError.TheVariant
 ghost use Rattle.vcd_script.specs.declared.running.script_input.TheConstants.{SCRIPT_LIMIT};
 ghost use Rattle.vcd_amend.specs.Amendment.{Amendment as AmendmentContents};
 ghost use Rattle.vcd_amend.specs.AmendRunEnds.{pass_ends, AreReady};
+ghost use Rattle.vcd_amend.specs.AmendmentContents.{amendment_contents};
+ghost use Rattle.vcd_amend.specs.OutputRemarks as spec;
 ghost use Rattle.vcd_amend.specs.EditsInForce.{lines_in_force};
 ghost use Rattle.vcd_amend.specs.MarkedRun.{MarkedRunEnds, mark_with};
 ghost use Rattle.vcd_amend.specs.KnownSignals.{IsAmendmentFor};
@@ -33,10 +35,12 @@ ghost use Rattle.vcd_amend.specs.inside.Running.{RefusesPlan, IsLaterCapture, Sh
 ghost use Rattle.vcd_amend.specs.inside.Running.{IsEdited, IsDryRun, HasEditLines};
 ghost use Rattle.vcd_amend.specs.inside.Running.{EndsBeforeReplies, EndsBeforeCopy, StopsInRun};
 ghost use Rattle.vcd_amend.specs.inside.Running.{error_of_hearing, error_of_copy};
+ghost use Rattle.vcd_amend.specs.inside.Running.{TakesLineRemarks, TakesOutputRemarks};
 ghost use Rattle.vcd_amend.specs.declared.running.AmendRunError.TheVariants as errors;
 
 use crate::after_cuts::after_cuts;
 use crate::amending::amend_marked;
+use crate::amendment::Amendment;
 use crate::coding::amendment_for;
 use crate::cut_ticks::CutTicks;
 use crate::declarations::signal_sizes::have_sizes_of;
@@ -45,9 +49,10 @@ use crate::dry_running::{DryRun, dry_run};
 use crate::hearing::{HearError, read_heard};
 use crate::new_names::takes_skipped_name;
 use crate::outlining::{Outline, read_outline};
+use crate::remarks::output_remarks;
 use crate::sharing::share_capture;
 use std::alloc::Global;
-use vcd_core::{Capture, NoMemory, SIGNAL_LIMIT, Sink, Source, Word};
+use vcd_core::{Capture, NoMemory, SIGNAL_LIMIT, Sink, Source, Word, write_and_flush};
 use vcd_journal::{DEPTH_LIMIT, Session};
 use vcd_script::{RunError, Summary, read_script, remark_on_lines, run_lines};
 use vcd_text::{CopyError, Mark, MarkHead, ReadError};
@@ -163,8 +168,8 @@ impl From<CopyError> for AmendRunError {
 /// edited its changes before and after.
 ///
 /// Before the first reply it writes the remarks on the lines. For these it carries the lines out
-/// once more, without replies. If that runs out of memory, or the writer of the remarks fails, the
-/// run goes on without the other remarks.
+/// once more, without replies. Before the copy it writes the remarks on the output. If either runs
+/// out of memory, or the writer of the remarks fails, the run goes on without the other remarks.
 pub fn amend_run<R: Source, S: Source, P: Sink, Q: Sink, W: Sink>(
     alloc: Global,
     passes: &mut Passes<R>,
@@ -198,7 +203,7 @@ pub fn amend_run<R: Source, S: Source, P: Sink, Q: Sink, W: Sink>(
         Some(out) => {
             let edited = run_script(alloc, passes, script_reader, replies, remarks, depth, true)?;
             let refused = edited.refused;
-            copy_amended(alloc, &mut passes.copy, edited, mark, out)?;
+            copy_amended(alloc, &mut passes.copy, edited, mark, remarks, out)?;
             Ok(Summary { refused })
         }
         None => {
@@ -249,7 +254,7 @@ fn run_script<R: Source, S: Source, P: Sink, Q: Sink>(
         (pass_ends R.coming R.has_failed passes.old passes.new)
         (device_end S.coming S.has_failed script_reader.old script_reader.new)
         (device_end P.taken P.has_failed replies.old replies.new)) }
-    ensures remarked { TakesRemarks depth
+    ensures remarked { TakesLineRemarks depth
         (pass_ends R.coming R.has_failed passes.old passes.new)
         (device_end S.coming S.has_failed script_reader.old script_reader.new)
         (device_end Q.taken Q.has_failed remarks.old remarks.new) }
@@ -451,13 +456,14 @@ fn begin_session(alloc: Global, capture: Capture, depth: u64) -> Result<Session,
     }
 }
 
-/// Copies the file after the cuts with what else the script has changed, and with a mark if one is
-/// asked for.
-fn copy_amended<R: Source, W: Sink>(
+/// Writes the remarks on the output. Then it copies the file after the cuts with what else the
+/// script has changed, and with a mark if one is asked for.
+fn copy_amended<R: Source, Q: Sink, W: Sink>(
     alloc: Global,
     reader: &mut R,
     edited: Edited,
     head: Option<MarkHead<'_>>,
+    remarks: &mut Q,
     out: &mut W,
 ) -> Result<(), CopyError>
     requires reader_ready { R.has_failed reader.old ≡ false }
@@ -479,6 +485,9 @@ fn copy_amended<R: Source, W: Sink>(
         × Appends (W.taken out.old) (W.taken out.new) text)) }
     ensures not_failed { OnOk result (W.has_failed out.new ≡ false) }
     ensures flushed { OnOk result (W.is_flushed out.new ≡ true) }
+    ensures remarked { TakesOutputRemarks (declarations_of edited.declared.items)
+        (contents edited.first) edited.origins.items edited.cuts.items edited.session.now
+        (device_end Q.taken Q.has_failed remarks.old remarks.new) }
     ensures fails { IfErr result (CopyFails SIGNAL_LIMIT LONG_FILE_LIMIT (R.coming reader.old)
         (R.coming reader.new) (R.has_failed reader.new) (W.taken out.old) (W.taken out.new)
         (W.has_failed out.new)) }
@@ -496,6 +505,7 @@ fn copy_amended<R: Source, W: Sink>(
     let first = after_cuts(alloc, first, cuts)?;
     let last = session.capture();
     let amendment = amendment_for(alloc, declared.as_slice(), &first, origins.as_slice(), last)?;
+    remark_on_output(alloc, declared.as_slice(), &amendment, cuts, remarks);
     let mark = mark_of(head, edit_lines.as_slice());
     amend_marked(
         alloc,
@@ -506,6 +516,27 @@ fn copy_amended<R: Source, W: Sink>(
         mark,
         out,
     )
+}
+
+/// Writes the remarks on the output, if the writer has not failed. An error ends these alone.
+fn remark_on_output<Q: Sink>(
+    alloc: Global,
+    declared: &[DeclaredVariable],
+    amendment: &Amendment,
+    cuts: &[CutTicks],
+    remarks: &mut Q,
+)
+    ensures { (count : ℕ)
+        × HasPrefix (device_end Q.taken Q.has_failed remarks.old remarks.new) count
+        (spec.output_remarks (amendment_contents amendment.now) (declarations_of declared.now)
+        (not (length cuts.now == 0))) }
+{
+    if remarks.failed() {
+        return;
+    }
+    if let Ok(text) = output_remarks(alloc, declared, amendment, cuts) {
+        let _ = write_and_flush(remarks, text.as_slice());
+    }
 }
 
 /// The mark with these edits, if one is asked for.

@@ -79,7 +79,7 @@ fn is_skipped_with_name(variable: &DeclaredVariable, name: FullName<'_>) -> bool
 }
 
 /// The full name of a variable.
-fn declared_name(variable: &DeclaredVariable) -> FullName<'_>
+pub fn declared_name(variable: &DeclaredVariable) -> FullName<'_>
     ensures { name_bytes result ≡ declared_name (declaration_of_variable variable.now) }
 {
     FullName::of_words(variable.scopes.as_slice(), variable.words.as_slice())

@@ -14,6 +14,7 @@ mod runs;
 
 use crate::replies::MemoryResult;
 use crate::script::Command;
+pub use appending::append_more;
 use decoders::{append_i2c_remarks, append_spi_remarks, append_uart_remarks};
 use edits::append_edit_remarks;
 use std::alloc::Global;

@@ -7,8 +7,8 @@ use Rattle.std.proofs.lemmas.Bool.{false≢true}
 use Rattle.std.proofs.lemmas.List.{append-nil}
 use Rattle.std.proofs.lemmas.List.Elements.{All-nil, All-cons, All-head, All-tail, All-append}
 use Rattle.vcd_core.specs.Decimal.{number_of}
-use Rattle.vcd_text.specs.Items.{Item, entry, timescale, scope, upscope, variable, end_definitions, stamp, scalar}
-use Rattle.vcd_text.specs.Items.{vector, real_or_string, dump_word, other, spelling}
+use Rattle.vcd_text.specs.Items.{Item, end_definitions, stamp, scalar}
+use Rattle.vcd_text.specs.Items.{vector, real_or_string, spelling}
 use Rattle.vcd_text.specs.Grammar.{ParseState, initial_state, state_after_item}
 use Rattle.vcd_text.specs.Text.{item_line}
 use Rattle.vcd_text.specs.Pieces.{Piece, state_of_pieces, stamp_line}

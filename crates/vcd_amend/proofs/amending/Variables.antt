@@ -51,7 +51,7 @@ some_of : {X : Type 0} (o p : Option X) → is_some (option_or o p) ≡ (is_some
 some_of None p = refl
 some_of (Some x) p = refl
 
-any_both : (key : List ℕ) (xs ys : List VariableDeclaration) → any_has key (xs ++ ys) ≡
+pub any_both : (key : List ℕ) (xs ys : List VariableDeclaration) → any_has key (xs ++ ys) ≡
     (any_has key xs || any_has key ys)
 any_both key xs ys = ap (λ (o : Option VariableDeclaration). is_some o)
     (find-append (λ (d : VariableDeclaration). bytes_eq key d.code) xs ys)

@@ -61,11 +61,11 @@ declared_one d t = elim (cases_Bool (pointwise bytes_eq d.words t.signal.words &
 ]
 
 -- the element after a list
-at_end : (fs : List Fate) (f : Fate) (gs : List Fate) → get_or (fs ++ f ∷ gs) (length fs) stays ≡ f
+pub at_end : (fs : List Fate) (f : Fate) (gs : List Fate) → get_or (fs ++ f ∷ gs) (length fs) stays ≡ f
 at_end [] f gs = refl
 at_end (x ∷ fs) f gs = at_end fs f gs
 
-one_kept : (before : List VariableDeclaration) (d : VariableDeclaration) (skipped : Bool) → is_skipped d ≡ skipped
+pub one_kept : (before : List VariableDeclaration) (d : VariableDeclaration) (skipped : Bool) → is_skipped d ≡ skipped
     → length (kept_variables (before ++ d ∷ [])) ≡ length (kept_variables before) + (if skipped then 0 else 1)
 one_kept before d true is = ap length (filter-append (λ d. not (is_skipped d)) before (d ∷ [])) ∙ length-append
     (kept_variables before) _ ∙ rw is refl

@@ -163,7 +163,7 @@ module _ (file : List ℕ) (pieces : List Piece) (tail : List ℕ) (depth : ℕ)
       let ticks = cuts_in_force_leave_ticks (meaning s) es fit in
       record { ticks = ticks.0; cut = cut; allowed = allowed; in_body = in_body; end = ticks.1 }
 
-  retimed : MeansRetimed (is_cut_out_by es) (tick_before_cuts es) SIGNAL_LIMIT s
+  pub retimed : MeansRetimed (is_cut_out_by es) (tick_before_cuts es) SIGNAL_LIMIT s
       (pieces_after (is_cut_out_by es) SIGNAL_LIMIT pieces) tail
   retimed = retimed_is_meant (is_cut_out_by es) (tick_before_cuts es) SIGNAL_LIMIT file pieces tail can
 

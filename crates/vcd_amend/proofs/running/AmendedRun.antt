@@ -9,9 +9,8 @@ use Rattle.vcd_core.specs.Contents.{Contents, SignalContents}
 use Rattle.vcd_text.specs.Words.{words_of}
 use Rattle.vcd_text.specs.Grammar.{ParseState, initial_state, kept_variables, is_skipped}
 use Rattle.vcd_text.specs.Grammar.{AllowsAll, Accepts}
-use Rattle.vcd_text.specs.Meaning.{declared_signal, meaning, FileMeans}
+use Rattle.vcd_text.specs.Meaning.{declared_signal, meaning}
 use Rattle.vcd_text.specs.Pieces.{Piece, IsCut, state_of_pieces}
-use Rattle.vcd_text.proofs.shared.ResultIsUnique.{one_meaning}
 use Rattle.vcd_edit.specs.declared.edit.Edit.{Edit}
 use Rattle.vcd_edit.specs.OtherWaves.{OtherChanges, with_other, signals_with_others}
 use Rattle.vcd_journal.specs.History.{replay}
@@ -133,38 +132,35 @@ IsKnownForRun silent c skipped depth lines pieces a =
     (origins (length c.signals) (last_edits c skipped depth lines))
     (last_capture (hollow silent c) skipped depth lines).signals a
 
--- the amended file is the edited one
-pub amended_text_is_edited : (file : List ℕ) (pieces : List Piece) (tail : List ℕ) (silent : ℕ → Bool)
-    (c : Contents) (skipped depth : ℕ) (lines : List (List ℕ)) (a : Amendment)
-    → FileMeans SIGNAL_LIMIT file c skipped
-    → IsCut file pieces tail → AllowsAll (initial_state SIGNAL_LIMIT) (map (λ p. p.item) pieces)
-    → IsTrue (state_of_pieces SIGNAL_LIMIT pieces).in_body
+-- so it is that of the run
+pub known_is_of_run : (file : List ℕ) (pieces : List Piece) (tail : List ℕ) (silent : ℕ → Bool)
+    (c : Contents) (skipped depth : ℕ) (lines : List (List ℕ)) (a : Amendment) → PiecesMean file pieces tail c skipped
     → AreHeard silent (origins_asked c skipped depth lines)
     → IsKnownForRun silent c skipped depth lines pieces a
-    → PiecesMean file pieces tail c skipped
-    × (amended_text a true (initial_state SIGNAL_LIMIT) (pieces_after_cuts c skipped depth lines pieces) tail
-    ≡ edited_text c skipped depth lines pieces tail)
-amended_text_is_edited file pieces tail silent c skipped depth lines a means cut allowed in_body asked is_known =
+    → a ≡ amendment_of_run c skipped depth lines pieces
+known_is_of_run file pieces tail silent c skipped depth lines a is =
     let s : ParseState = state_of_pieces SIGNAL_LIMIT pieces in
     let count : ℕ = count_by is_skipped s.declared in
-    let accepted : Accepts SIGNAL_LIMIT (words_of file) s = cut_is_accepted file pieces tail cut allowed in_body in
-    let again : FileMeans SIGNAL_LIMIT file (meaning s) count =
-    record { state = s; accepted = accepted; means = refl; left_out = refl } in
-    let one = one_meaning SIGNAL_LIMIT file c (meaning s) skipped count means again in
-    let is : PiecesMean file pieces tail c skipped =
-    record { cut = cut; allowed = allowed; in_body = in_body; means = one.0; left_out = one.1 } in
     let IsForRun : Contents → ℕ → Type 0 = λ d n. AreHeard silent (origins_asked d n depth lines)
     → IsKnownForRun silent d n depth lines pieces a → a ≡ amendment_of_run d n depth lines pieces in
     let here : IsForRun (meaning s) count = λ heard known.
     amendment_is_for_run s (state_of_pieces SIGNAL_LIMIT (pieces_after_cuts (meaning s) count depth lines pieces))
     silent count depth lines a heard
-    (is_after_cuts file pieces tail depth lines cut allowed in_body accepted) known in
-    let for_run : IsForRun c skipped =
-    subst (λ (d : Contents). IsForRun d skipped) (sym one.0) (subst (IsForRun (meaning s)) (sym one.1) here) in (
-      is,
-      ap (λ (b : Amendment). amended_text b true (initial_state SIGNAL_LIMIT)
-          (pieces_after_cuts c skipped depth lines pieces) tail) (for_run asked is_known),
-    )
+    (is_after_cuts file pieces tail depth lines is.cut is.allowed is.in_body
+    (cut_is_accepted file pieces tail is.cut is.allowed is.in_body)) known in
+    subst (λ (d : Contents). IsForRun d skipped) (sym is.means) (subst (IsForRun (meaning s)) (sym is.left_out) here)
+
+-- and the amended file is the edited one
+pub amended_text_is_edited : (file : List ℕ) (pieces : List Piece) (tail : List ℕ) (silent : ℕ → Bool)
+    (c : Contents) (skipped depth : ℕ) (lines : List (List ℕ)) (a : Amendment) → PiecesMean file pieces tail c skipped
+    → AreHeard silent (origins_asked c skipped depth lines)
+    → IsKnownForRun silent c skipped depth lines pieces a
+    → amended_text a true (initial_state SIGNAL_LIMIT) (pieces_after_cuts c skipped depth lines pieces) tail
+    ≡ edited_text c skipped depth lines pieces tail
+amended_text_is_edited file pieces tail silent c skipped depth lines a is asked is_known =
+    ap (λ (b : Amendment). amended_text b true (initial_state SIGNAL_LIMIT)
+    (pieces_after_cuts c skipped depth lines pieces) tail)
+    (known_is_of_run file pieces tail silent c skipped depth lines a is asked is_known)
 
 -- the file after the cuts in force has the variables of the file
 pub declared_after_cuts : (file : List ℕ) (pieces : List Piece) (tail : List ℕ) (c : Contents) (skipped depth : ℕ)

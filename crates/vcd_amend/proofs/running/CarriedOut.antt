@@ -127,6 +127,33 @@ is_run file lines depth c skipped means =
       refl,
     )
 
+-- the amendment that is known from the captures is known for the run
+pub known_for_run : (file lines : List ℕ) (depth : ℕ) (writes : Bool) (took : List ℕ → Type 0)
+    (declared : List VariableDeclaration) (first : Contents) (ks : List ℕ) (cs : List CutTicks) (last : Contents)
+    (refused : ℕ) (a : Amendment) (pieces : List Piece) (tail : List ℕ)
+    (edited : IsEdited file lines depth writes took declared first ks cs last refused)
+    → IsAmendmentFor declared (capture_after_cuts first cs).signals ks last.signals a
+    → PiecesMean file pieces tail edited.whole edited.skipped
+    → IsKnownForRun edited.silent edited.whole edited.skipped depth (script_lines lines) pieces a
+known_for_run file lines depth writes took declared first ks cs last refused a pieces tail edited is_for is =
+    let c : Contents = edited.whole in
+    let all : List (List ℕ) = script_lines lines in
+    let es : List Edit = last_edits c edited.skipped depth all in
+    let s : ParseState = state_of_pieces SIGNAL_LIMIT pieces in
+    let t : ParseState = state_of_pieces SIGNAL_LIMIT (pieces_after_cuts c edited.skipped depth all pieces) in
+    let variables : declared ≡ t.declared =
+    edited.variables s (cut_is_accepted file pieces tail is.cut is.allowed is.in_body)
+    ∙ sym (declared_after_cuts file pieces tail c edited.skipped depth all is) in
+    let firsts : capture_after_cuts first cs ≡ hollow edited.silent (replay c (cuts es)) =
+    (λ i. capture_after_cuts (edited.hollow_is i) (edited.cuts_are i))
+    ∙ cuts_are_replayed (hollow edited.silent c) es ∙ hollow_after_cuts edited.silent c es in
+    subst (λ (d : Contents). IsKnownAmendment t (hollow edited.silent (replay c (cuts es))).signals
+    (origins (length c.signals) es) d.signals a) edited.last_is
+    (subst (λ (os : List ℕ). IsKnownAmendment t (hollow edited.silent (replay c (cuts es))).signals os last.signals a)
+    edited.origins_are
+    (subst (λ (d : Contents). IsKnownAmendment t d.signals ks last.signals a) firsts
+    (λ whole knows. is_for t whole variables knows)))
+
 -- with an output: the amended text is that of the run
 pub is_written : (file lines text : List ℕ) (depth : ℕ) (took : List ℕ → Type 0) (declared : List VariableDeclaration)
     (first : Contents) (ks : List ℕ) (cs : List CutTicks) (last : Contents) (refused : ℕ) (a : Amendment)
@@ -154,40 +181,17 @@ is_written file lines text depth took declared first ks cs last refused a edited
       means = one.0;
       left_out = one.1;
     } in
-    let variables : declared ≡ (state_of_pieces SIGNAL_LIMIT (pieces_after_cuts c skipped depth all pieces)).declared =
-    edited.variables s accepted ∙ sym (declared_after_cuts file pieces amended.tail c skipped depth all is) in
-    let firsts : capture_after_cuts first cs ≡ hollow edited.silent (replay c (cuts es)) =
-    (λ i. capture_after_cuts (edited.hollow_is i) (edited.cuts_are i))
-    ∙ cuts_are_replayed (hollow edited.silent c) es ∙ hollow_after_cuts edited.silent c es in
-    let known : IsKnownForRun edited.silent c skipped depth all pieces a =
-    subst (λ (d : Contents). IsKnownAmendment
-    (state_of_pieces SIGNAL_LIMIT (pieces_after_cuts c skipped depth all pieces))
-    (hollow edited.silent (replay c (cuts es))).signals (origins (length c.signals) es) d.signals a) edited.last_is
-    (subst (λ (os : List ℕ). IsKnownAmendment
-    (state_of_pieces SIGNAL_LIMIT (pieces_after_cuts c skipped depth all pieces))
-    (hollow edited.silent (replay c (cuts es))).signals os last.signals a) edited.origins_are
-    (subst (λ (d : Contents). IsKnownAmendment
-    (state_of_pieces SIGNAL_LIMIT (pieces_after_cuts c skipped depth all pieces)) d.signals ks last.signals a) firsts
-    (λ whole knows. is_for (state_of_pieces SIGNAL_LIMIT (pieces_after_cuts c skipped depth all pieces)) whole
-    variables knows))) in
-    let cut_out : is_cut_by cs ≡ is_cut_out_by es = ap is_cut_by edited.cuts_are ∙ cut_by_is_cut_out es in
-    let text_is = amended_text_is_edited file pieces amended.tail edited.silent c skipped depth all a edited.means
-    amended.cut amended.allowed amended.in_body edited.heard known in (
+    let known = known_for_run file lines depth true took declared first ks cs last refused a pieces amended.tail edited
+    is_for is in
+    let cut_out : is_cut_by cs ≡ is_cut_out_by es = ap is_cut_by edited.cuts_are ∙ cut_by_is_cut_out es in (
       record (outcome c skipped depth all) {
         output = edited_text c skipped depth all pieces amended.tail;
       },
-      record {
-        contents = c;
-        skipped = skipped;
-        pieces = pieces;
-        tail = amended.tail;
-        means = text_is.0;
-        run = refl;
-      },
+      record { contents = c; skipped = skipped; pieces = pieces; tail = amended.tail; means = is; run = refl },
       edited.replies,
       amended.is
           ∙ ap (λ (f : ℕ → Bool). amended_text a true (initial_state SIGNAL_LIMIT)
           (pieces_after f SIGNAL_LIMIT pieces) amended.tail) cut_out
-          ∙ text_is.1,
+          ∙ amended_text_is_edited file pieces amended.tail edited.silent c skipped depth all a is edited.heard known,
       edited.count,
     )

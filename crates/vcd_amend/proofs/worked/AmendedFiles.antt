@@ -25,7 +25,7 @@ use Rattle.vcd_amend.specs.GivenCodes.{coded_signals, coded_derived, coded_waves
 
 -- ---- a file: two wires with one code, one with another, and a real, which is skipped
 
-abbrev top : ScopeName
+abbrev pub top : ScopeName
 top = record { kind = codes "module"; words = codes "top" ∷ [] }
 
 abbrev wire : List ℕ → List ℕ → Item

@@ -1,13 +1,13 @@
 -- A run whose replies are written, and what is then known for the copy.
-use Rattle.std.specs.Prelude.{◌≡◌, ◌⊎◌, ◌<◌, ℕ, Bool, true, false, List, length, Option, Some}
-use Rattle.std.specs.Prelude.{IfSome, Err, is_some}
+use Rattle.std.specs.Prelude.{◌≡◌, ◌⊎◌, ◌<◌, ◌==◌, ℕ, Bool, true, false, not, List, [], length}
+use Rattle.std.specs.Prelude.{Option, Some, IfSome, Err, is_some}
 use Rattle.std.specs.Prelude.{nat_eq, slice_index_or}
 use Rattle.std.specs.List.{concat, list_any}
 use Rattle.vcd_core.specs.declared.capture.TheConstants.{SIGNAL_LIMIT}
 use Rattle.vcd_core.specs.Contents.{Contents}
 use Rattle.vcd_core.specs.CaptureContents.{contents}
 use Rattle.vcd_core.specs.Outline.{outline}
-use Rattle.vcd_core.specs.Devices.{DeviceEnd, IsUntouched}
+use Rattle.vcd_core.specs.Devices.{DeviceEnd, IsUntouched, HasPrefix, HasText}
 use Rattle.vcd_text.specs.Words.{words_of}
 use Rattle.vcd_text.specs.Grammar.{ParseState, VariableDeclaration, Accepts}
 use Rattle.vcd_text.specs.Meaning.{FileMeans}
@@ -17,13 +17,18 @@ use Rattle.vcd_journal.specs.Hollow.{hollow}
 use Rattle.vcd_script.specs.declared.running.run_error.RunError.TheVariants as run_errors
 use Rattle.vcd_script.specs.Script.{script_lines}
 use Rattle.vcd_script.specs.Run.{outcome}
+use Rattle.vcd_script.specs.RemarksOfRun.{remarks_of_run}
 use Rattle.vcd_script.specs.LineRunEnds.{HasFailedAt, StopsInLines}
 use Rattle.vcd_script.specs.HollowRun.{last_edits, last_capture, origins_asked, AreHeard}
 use Rattle.vcd_amend.specs.declared.cut_ticks.CutTicks.{CutTicks}
 use Rattle.vcd_amend.specs.inside.dry_running.OriginHistory.{ticks_of_cuts}
 use Rattle.vcd_amend.specs.NewNames.{takes_skipped_name}
 use Rattle.vcd_amend.specs.EditsInForce.{lines_in_force}
-use Rattle.vcd_amend.specs.AmendRunEnds.{PassEnds, AmendRunEnds}
+use Rattle.vcd_amend.specs.AmendRunEnds.{PassEnds, AllShow, AmendRunEnds}
+use Rattle.vcd_amend.specs.Amendment.{Amendment}
+use Rattle.vcd_amend.specs.KnownSignals.{IsAmendmentFor}
+use Rattle.vcd_amend.specs.OutputRemarks.{output_remarks}
+use Rattle.vcd_amend.specs.inside.CaptureAfterCuts.{capture_after_cuts}
 use Rattle.vcd_amend.specs.declared.running.Passes.{Passes}
 use Rattle.vcd_amend.specs.declared.running.AmendRunError.{AmendRunError}
 use Rattle.vcd_amend.specs.declared.running.AmendRunError.TheVariants as errors
@@ -133,3 +138,23 @@ StopsInRun skipped lines old replies (errors.Run e) =
     ⊎ ((is_flushed : Bool) × HasFailedAt replies.has_failed is_flushed e
     × StopsInLines skipped lines old replies.before replies.after e)
 StopsInRun skipped lines old replies e = ⊥
+
+-- ---- remarks
+
+-- if every pass shows one file, and the script its bytes: a writer took the first bytes of the
+-- remarks on the lines, on the capture that the file means
+unfoldable pub TakesLineRemarks : (depth : ℕ) → PassEnds → (script remarks : DeviceEnd) → Type 0
+TakesLineRemarks depth passes script remarks =
+    (file lines : List ℕ) → AllShow passes file → script.before ≡ Some lines
+    → (c : Contents) (skipped : ℕ) → FileMeans SIGNAL_LIMIT file c skipped
+    → (count : ℕ) × HasPrefix remarks count (remarks_of_run c skipped depth (script_lines lines))
+
+-- a writer took nothing, or the first bytes of the remarks on the output by an amendment that is
+-- known from these captures
+abbrev pub TakesOutputRemarks : List VariableDeclaration → (first : Contents) → (ks : List ℕ)
+    → List CutTicks → (last : Contents) → (remarks : DeviceEnd) → Type 0
+TakesOutputRemarks declared first ks cuts last remarks = HasText remarks []
+    ⊎ ((a : Amendment)
+    × IsAmendmentFor declared (capture_after_cuts first cuts).signals ks last.signals a
+    × (count : ℕ)
+    × HasPrefix remarks count (output_remarks a declared (not (length cuts == 0))))

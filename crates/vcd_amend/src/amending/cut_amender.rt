@@ -537,7 +537,7 @@ fn either(first: bool, second: bool) -> bool
 }
 
 /// Whether variables of this kind are events, whose changes do not last.
-fn is_event(kind: &[u8]) -> bool
+pub fn is_event(kind: &[u8]) -> bool
     ensures { result ≡ bytes_eq kind.now (codes "event") }
 {
     kind == b"event".as_slice()

@@ -336,7 +336,7 @@ pub enum VariableLeft<'a> {
 }
 
 /// What is left of the next variable, by the fates to come.
-fn next_fate(fates: &[Fate], is_kept: bool) -> VariableLeft
+pub fn next_fate(fates: &[Fate], is_kept: bool) -> VariableLeft
     ensures { fate_of_left result ≡ fate_contents_first is_kept fates.now }
 {
     if !is_kept {
@@ -354,7 +354,7 @@ fn next_fate(fates: &[Fate], is_kept: bool) -> VariableLeft
 }
 
 /// The fates to come after a variable.
-fn later_fates(fates: &[Fate], is_kept: bool) -> &[Fate]
+pub fn later_fates(fates: &[Fate], is_kept: bool) -> &[Fate]
     ensures { result.now ≡ (if is_kept then drop 1 fates.now else fates.now) }
 {
     if !is_kept {
@@ -367,7 +367,7 @@ fn later_fates(fates: &[Fate], is_kept: bool) -> &[Fate]
 }
 
 /// What is left of a variable of this code has its code, or another.
-fn use_left(
+pub fn use_left(
     uses: &mut CodeTargets<CodeUse>,
     alloc: Global,
     left: VariableLeft,

@@ -47,3 +47,15 @@ pub fn append_place(text: &mut Vec<u8>, first: u64, last: u64) -> MemoryResult<(
     text.extend_from_slice(b"-")?;
     append_decimal(text, last)
 }
+
+/// Appends how many more there are than are shown, if any.
+pub fn append_more(text: &mut Vec<u8>, count: u64) -> MemoryResult<()>
+    ensures { OnOk result (text.new.items ≡ text.old.items ++ spec.more_text count) }
+{
+    if count == 0 {
+        return Ok(());
+    }
+    text.extend_from_slice(b", and ")?;
+    append_decimal(text, count)?;
+    append_bytes(text, b" more")
+}

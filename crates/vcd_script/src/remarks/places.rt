@@ -10,10 +10,10 @@ ghost use Rattle.vcd_script.specs.inside.remarks.Parts as inside;
 ghost use Rattle.vcd_script.specs.inside.remarks.Parts.{is_lost_run, lost_head, lost_from};
 ghost use Rattle.vcd_script.specs.inside.remarks.Parts.{lost_end};
 
-use crate::remarks::appending::{append_place, append_remark_head};
+use crate::remarks::appending::{append_more, append_place, append_remark_head};
 use crate::remarks::runs::{letter_of, tick_before};
 use crate::replies::MemoryResult;
-use crate::replies::appending::{append_bytes, append_decimal};
+use crate::replies::appending::append_bytes;
 use vcd_core::{Bit, Change};
 
 /// At most how many places a remark shows.
@@ -192,16 +192,4 @@ fn append_lost_end(text: &mut Vec<u8>, count: u64) -> MemoryResult<()>
     }
     append_more(text, count.saturating_sub(SHOWN_PLACES))?;
     append_bytes(text, b": edges and bits there are lost\n")
-}
-
-/// Appends how many places more there are, if any.
-fn append_more(text: &mut Vec<u8>, count: u64) -> MemoryResult<()>
-    ensures { OnOk result (text.new.items ≡ text.old.items ++ spec.more_text count) }
-{
-    if count == 0 {
-        return Ok(());
-    }
-    text.extend_from_slice(b", and ")?;
-    append_decimal(text, count)?;
-    append_bytes(text, b" more")
 }

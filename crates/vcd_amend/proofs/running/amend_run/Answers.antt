@@ -3,7 +3,7 @@ use Rattle.vcd_core.specs.CaptureContents.{contents}
 use Rattle.vcd_amend.specs.DeclaredVariables.{declarations_of}
 use Rattle.vcd_amend.specs.inside.Running.{error_of_copy}
 use Rattle.vcd_amend.proofs.running.EndsOfRun.{ends_with, ends_with_output, ends_without_output, ends_at_copy}
-use Rattle.vcd_amend.proofs.running.RemarkedRun.{remarks_as_shown}
+use Rattle.vcd_amend.proofs.running.RemarkedRun.{line_remarks_alone, with_output_remarks}
 use Rattle.vcd_amend.proofs.running.amend_run.Goals as goal
 
 pub returns-in_err-edited-in-Some-clause-ends : goal.returns-in_err-edited-in-Some-clause-ends
@@ -44,12 +44,30 @@ returns-in_ok-edited-in-None-clause-ends g c =
     e.origins.items e.cuts.items e.session.now e.refused _ c.in_ok-edited-in-None.ensures.edited
     c.in_ok-edited-in-None.ensures.not_failed c.in_ok-edited-in-None.ensures.file_short)
 
--- ---- the remarks, after the copy
+-- ---- the remarks
+
+pub returns-in_err-edited-in-Some-clause-remarked : goal.returns-in_err-edited-in-Some-clause-remarked
+returns-in_err-edited-in-Some-clause-remarked g c =
+    line_remarks_alone c.args.depth _ _ _ c.in_err-edited-in-Some.ensures.remarked
+
+pub returns-in_err-edited-in-None-clause-remarked : goal.returns-in_err-edited-in-None-clause-remarked
+returns-in_err-edited-in-None-clause-remarked g c =
+    line_remarks_alone c.args.depth _ _ _ c.in_err-edited-in-None.ensures.remarked
+
+pub returns-in_ok-edited-in-None-clause-remarked : goal.returns-in_ok-edited-in-None-clause-remarked
+returns-in_ok-edited-in-None-clause-remarked g c =
+    line_remarks_alone c.args.depth _ _ _ c.in_ok-edited-in-None.ensures.remarked
 
 pub returns-in_err-copy_amended-in-Some-clause-remarked : goal.returns-in_err-copy_amended-in-Some-clause-remarked
 returns-in_err-copy_amended-in-Some-clause-remarked g c =
-    remarks_as_shown c.args.depth _ _ _ _ c.in_ok-edited-in-Some.ensures.remarked (λ file shows. shows)
+    let e = c.in_ok-edited-in-Some.edited in
+    with_output_remarks c.args.depth _ _ _ _ _ _ _ _ _ (declarations_of e.declared.items) (contents e.first)
+    e.origins.items e.cuts.items e.session.now e.refused c.in_ok-edited-in-Some.ensures.remarked (λ file shows. shows)
+    c.in_ok-edited-in-Some.ensures.edited c.in_err-copy_amended-in-Some.ensures.remarked
 
 pub returns-in_ok-copy_amended-in-Some-clause-remarked : goal.returns-in_ok-copy_amended-in-Some-clause-remarked
 returns-in_ok-copy_amended-in-Some-clause-remarked g c =
-    remarks_as_shown c.args.depth _ _ _ _ c.in_ok-edited-in-Some.ensures.remarked (λ file shows. shows)
+    let e = c.in_ok-edited-in-Some.edited in
+    with_output_remarks c.args.depth _ _ _ _ _ _ _ _ _ (declarations_of e.declared.items) (contents e.first)
+    e.origins.items e.cuts.items e.session.now e.refused c.in_ok-edited-in-Some.ensures.remarked (λ file shows. shows)
+    c.in_ok-edited-in-Some.ensures.edited c.in_ok-copy_amended-in-Some.ensures.remarked

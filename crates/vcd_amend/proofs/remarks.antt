@@ -1,0 +1,4 @@
+-- Lemmas of `remarks`.
+pub mod Fates
+pub mod EventsLeftOut
+pub mod SharedCodes

@@ -1,0 +1,100 @@
+//! The variables that are edited or removed, while others of their code are not.
+
+ghost use Rattle.std.specs.Prelude.{◌≡◌, ◌++◌, ℕ, List, map, is_some, IfOk};
+ghost use Rattle.vcd_text.specs.AsDeclared.{declared_name};
+ghost use Rattle.vcd_text.specs.Grammar.{VariableDeclaration};
+ghost use Rattle.vcd_text.specs.inside.reading.CodeTargets.{code_target};
+ghost use Rattle.vcd_amend.specs.Amendment.{first_with_code};
+ghost use Rattle.vcd_amend.specs.AmendmentContents.{added_contents};
+ghost use Rattle.vcd_amend.specs.OutputRemarks.{has_other_code, is_removed_apart};
+ghost use Rattle.vcd_amend.specs.inside.OutputRemarks.{fate_in_memory, variables_in_place};
+ghost use Rattle.vcd_amend.specs.inside.OutputRemarks.{variables_by_fate, HaveCodesOf};
+
+use crate::amending::code_uses::{CodeUse, first_uses};
+use crate::amending::file_amender::{VariableLeft, use_left};
+use crate::amendment::AddedVariable;
+use crate::remarks::fated_variables::FatedVariable;
+use crate::remarks::names::copy_name;
+use std::alloc::Global;
+use vcd_core::{NoMemory, Word};
+use vcd_text::CodeTargets;
+
+/// Which codes variables have in the amended file.
+pub fn used_codes(
+    alloc: Global,
+    fated: &[FatedVariable],
+    added: &[AddedVariable],
+) -> Result<CodeTargets<CodeUse>, NoMemory>
+    ensures { IfOk result (λ uses. HaveCodesOf uses
+        (variables_in_place (map fate_in_memory fated.now) ++ map added_contents added.now)) }
+{
+    let mut uses = first_uses(alloc, &[], added)?;
+    for variable in fated {
+        use_left(
+            &mut uses,
+            alloc,
+            variable.left,
+            variable.declared.code.as_slice(),
+        )?;
+    }
+    Ok(uses)
+}
+
+/// The names of the variables that are edited, but not as another variable of their code.
+pub fn edited_names(alloc: Global, fated: &[FatedVariable]) -> Result<Vec<Word>, NoMemory>
+    ensures { IfOk result (λ names. names.items
+        ≡ map declared_name (variables_by_fate has_other_code (map fate_in_memory fated.now))) }
+{
+    let mut names = Vec::new(alloc);
+    for variable in fated {
+        if has_other_code(variable) {
+            names.push(copy_name(alloc, variable.declared)?)?;
+        }
+    }
+    Ok(names)
+}
+
+/// Whether a variable gets another code.
+fn has_other_code(variable: &FatedVariable) -> bool
+    ensures { result ≡ has_other_code (fate_in_memory variable.now).fate
+        (fate_in_memory variable.now).variable }
+{
+    match variable.left {
+        VariableLeft::Changed { code, .. } => code != variable.declared.code.as_slice(),
+        VariableLeft::All => false,
+        VariableLeft::Nothing => false,
+    }
+}
+
+/// The names of the variables that are removed, while a variable has their code in the amended
+/// file.
+pub fn removed_names(
+    alloc: Global,
+    fated: &[FatedVariable],
+    uses: &CodeTargets<CodeUse>,
+) -> Result<Vec<Word>, NoMemory>
+    ensures { IfOk result (λ names. (left : List VariableDeclaration) → HaveCodesOf uses.now left
+        → names.items ≡ map declared_name
+        (variables_by_fate (is_removed_apart left) (map fate_in_memory fated.now))) }
+{
+    let mut names = Vec::new(alloc);
+    for variable in fated {
+        if is_removed_apart(variable, uses) {
+            names.push(copy_name(alloc, variable.declared)?)?;
+        }
+    }
+    Ok(names)
+}
+
+/// Whether a variable is removed, while a variable has its code in the amended file.
+fn is_removed_apart(variable: &FatedVariable, uses: &CodeTargets<CodeUse>) -> bool
+    ensures { (left : List VariableDeclaration) → HaveCodesOf uses.now left
+        → result ≡ is_removed_apart left (fate_in_memory variable.now).fate
+        (fate_in_memory variable.now).variable }
+{
+    match variable.left {
+        VariableLeft::Nothing => uses.get(variable.declared.code.as_slice()).is_used,
+        VariableLeft::Changed { .. } => false,
+        VariableLeft::All => false,
+    }
+}
