@@ -1,2 +1,3 @@
 -- Worked cases.
 pub mod EmptyStamps
+pub mod StillShown

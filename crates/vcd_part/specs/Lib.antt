@@ -3,6 +3,7 @@ pub mod Pattern
 pub mod Times
 pub mod Requests
 pub mod PartPieces
+pub mod WrittenPart
 pub mod PartLaws
 pub mod PartEnds
 pub mod inside

@@ -11,20 +11,23 @@ use Rattle.vcd_text.specs.declared.reading.TheConstants.{LONG_FILE_LIMIT, VARIAB
 use Rattle.vcd_text.specs.declared.reading.choice.TickRange.{TickRange}
 use Rattle.vcd_part.specs.declared.part.PartError.{PartError}
 use Rattle.vcd_part.specs.declared.part.PartError.TheVariants as errors
+use Rattle.vcd_part.specs.declared.written_part.WrittenPart.{WrittenPart}
 use Rattle.vcd_part.specs.declared.request.Refusal.{Refusal}
 use Rattle.vcd_part.specs.declared.request.Request.{Request}
 use Rattle.vcd_part.specs.Requests.{decide, unmet}
 use Rattle.vcd_part.specs.PartPieces.{part_pieces}
 use Rattle.vcd_text.specs.Pieces.{piece_bytes}
 use Rattle.vcd_part.specs.PartLaws.{HasPart}
+use Rattle.vcd_part.specs.WrittenPart.{written_part}
 
--- the file is accepted, and this is the text of its part
-pub record IsPart (r : Request) (file text : List ℕ) : Type 0 where
+-- the file is accepted, this is the text of its part, and this is what there is to say of it
+pub record IsPart (r : Request) (file text : List ℕ) (written : WrittenPart) : Type 0 where
   pub pieces : List Piece
   pub tail : List ℕ
   pub ticks : TickRange
   pub part : HasPart r VARIABLE_LIMIT file pieces tail ticks
   pub is : text ≡ piece_bytes (part_pieces r pieces) ++ tail
+  pub said : written ≡ written_part r (state_of_pieces VARIABLE_LIMIT pieces) ticks
 
 -- the file begins with declarations that are accepted, and the request is refused for them, with
 -- the first pattern that no name of theirs meets
@@ -55,9 +58,10 @@ pub record IsPastEnd (r : Request) (file : List ℕ) (end : ℕ) : Type 0 where
 -- a request, and the ends of the source of the capture and of the writer of the part
 module _ (r : Request) (capture out : DeviceEnd) where
   -- how writing a part ends, by its result. After an error what the writer took is of no use
-  unfoldable pub PartEnds : Result Unit PartError → Type 0
-  PartEnds (Ok done) = IsRead LONG_FILE_LIMIT capture × (out.has_failed ≡ false)
-      × IfSome capture.before (λ file. (text : List ℕ) × IsPart r file text × HasText out text)
+  unfoldable pub PartEnds : Result WrittenPart PartError → Type 0
+  PartEnds (Ok written) = IsRead LONG_FILE_LIMIT capture × (out.has_failed ≡ false)
+      × IfSome capture.before (λ file. (text : List ℕ) × IsPart r file text written
+      × HasText out text)
   PartEnds (Err (errors.Copy e)) = CopyFails VARIABLE_LIMIT LONG_FILE_LIMIT capture.before
       capture.after capture.has_failed out.before out.after out.has_failed e
   PartEnds (Err (errors.Refused refusal pattern)) = (capture.has_failed ≡ false)

@@ -40,6 +40,10 @@ keeps_name r name =
 abbrev pub keeps : Request → VariableDeclaration → Bool
 keeps r d = keeps_name r (declared_name d)
 
+-- whether a variable is to be removed: it meets a pattern to remove
+abbrev pub removes : Request → VariableDeclaration → Bool
+removes r d = meets_one false (texts r.remove) (declared_name d)
+
 -- whether the full name of a variable meets a pattern
 abbrev pub is_met : List VariableDeclaration → (pattern : List ℕ) → Bool
 is_met declared pattern = list_any (λ d. meets pattern (declared_name d)) declared

@@ -11,6 +11,7 @@ ghost use Rattle.vcd_part.specs.inside.Choice.{HasNoted};
 
 use crate::name_text::read_name;
 use crate::patterns::Patterns;
+use crate::removed::{RemovedVariable, note_removed};
 use crate::request::{Refusal, Request};
 use std::alloc::Global;
 use vcd_core::{FullName, NoMemory, ScopeName, Timescale};
@@ -19,11 +20,14 @@ use vcd_text::TickRange;
 /// The patterns of a request, with what the declarations so far say of them.
 #[derive(Drop)]
 pub struct VariableChoice<'m, 'a> {
+    pub alloc: Global,
     pub keep: Patterns<'m, 'a>,
     pub remove: Patterns<'m, 'a>,
     /// How many variables are kept, of how many.
     pub kept: u64,
     pub all: u64,
+    /// The variables to remove, in the order of the file.
+    pub removed: Vec<RemovedVariable>,
     /// Room for a name.
     pub name: Vec<u8>,
 }
@@ -34,30 +38,40 @@ impl<'m, 'a> VariableChoice<'m, 'a> {
         ensures { IfOk result (λ choice. HasNoted choice request.entry []) }
     {
         Ok(VariableChoice {
+            alloc,
             keep: Patterns::new(alloc, request.keep)?,
             remove: Patterns::new(alloc, request.remove)?,
             kept: 0,
             all: 0,
+            removed: Vec::new(alloc),
             name: Vec::new(alloc),
         })
     }
 
-    /// Notes the variable in these scopes with these words of a name, after which `$end` comes.
-    /// Returns whether it is kept.
-    pub fn note(&mut self, scopes: &[ScopeName], words: &[u8]) -> Result<bool, NoMemory>
+    /// Notes the variable in these scopes with this code and these words of a name, after which
+    /// `$end` comes. Returns whether it is kept. It takes memory if the variable is to be removed.
+    pub fn note(
+        &mut self,
+        scopes: &[ScopeName],
+        code: &[u8],
+        words: &[u8],
+    ) -> Result<bool, NoMemory>
         ensures kept { IfOk result (λ is_kept.
             (r : Request) (declared : List VariableDeclaration) (d : VariableDeclaration) →
             HasNoted self.old r declared → d.scopes ≡ scopes.now →
             word_texts (words_of words.now) ≡ d.words ++ end_word ∷ [] → is_kept ≡ keeps r d) }
         ensures noted { OnOk result (
             (r : Request) (declared : List VariableDeclaration) (d : VariableDeclaration) →
-            HasNoted self.old r declared → d.scopes ≡ scopes.now →
+            HasNoted self.old r declared → d.scopes ≡ scopes.now → d.code ≡ code.now →
             word_texts (words_of words.now) ≡ d.words ++ end_word ∷ [] →
             HasNoted self.new r (declared ++ d ∷ [])) }
     {
         read_name(&mut self.name, words)?;
         let name = FullName::new(scopes, self.name.as_slice(), &[]);
-        let is_kept = is_kept(self.keep.note(name, true), self.remove.note(name, false));
+        let is_among_kept = self.keep.note(name, true);
+        let is_removed = self.remove.note(name, false);
+        note_removed(self.alloc, &mut self.removed, is_removed, name, code)?;
+        let is_kept = is_kept(is_among_kept, is_removed);
         self.kept = count(self.kept, is_kept);
         self.all = self.all.saturating_add(1);
         Ok(is_kept)

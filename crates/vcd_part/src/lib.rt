@@ -3,7 +3,8 @@
 //! [`write_part`] reads a capture file once, and writes the part that a [`Request`] asks for. What
 //! remains stands as it was, real numbers, strings and comments too: only the ticks count from the
 //! first one of the window, and a stamp goes if nothing remains at its tick. Nothing is held of the
-//! changes but the last one of each code before the window.
+//! changes but the last one of each code before the window. A [`WrittenPart`] says whether the
+//! capture ends before the window, and which variables to remove the part still shows.
 #![tactic(auto)]
 
 mod amender;
@@ -16,12 +17,16 @@ mod name_text;
 mod part;
 mod pattern;
 mod patterns;
+mod removed;
 mod request;
 mod time;
 mod window;
+mod written_part;
 
 pub use laws::part_is_read_again;
 pub use part::{PartError, write_part};
 pub use pattern::meets;
+pub use removed::RemovedVariable;
 pub use request::{Refusal, Request};
 pub use time::{Time, time_of};
+pub use written_part::WrittenPart;

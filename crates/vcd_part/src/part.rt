@@ -14,6 +14,7 @@ ghost use Rattle.vcd_part.specs.declared.part.PartError.TheVariants as errors;
 
 use crate::amender::PartAmender;
 use crate::request::{Refusal, Request};
+use crate::written_part::{WrittenPart, written_part};
 use std::alloc::Global;
 use vcd_core::{Sink, Source};
 use vcd_text::{CopyError, VARIABLE_LIMIT, copy};
@@ -54,14 +55,14 @@ impl From<CopyError> for PartError<'_> {
 /// comes before a refusal.
 ///
 /// Time: one pass over the file. Each name is compared with each pattern once. Memory: as of
-/// `copy`, some bytes for each code, its last change up to the first tick of the window, and a
-/// stamp.
+/// `copy`, some bytes for each code, its last change up to the first tick of the window, a stamp,
+/// and the full names and codes of the variables to remove.
 pub fn write_part<'a, R: Source, W: Sink>(
     alloc: Global,
     reader: &mut R,
     request: Request<'_, 'a>,
     writer: &mut W,
-) -> Result<(), PartError<'a>>
+) -> Result<WrittenPart, PartError<'a>>
     requires reader_ready { R.has_failed reader.old ≡ false }
     requires writer_ready { W.has_failed writer.old ≡ false }
     ensures ends { PartEnds request.entry
@@ -70,7 +71,7 @@ pub fn write_part<'a, R: Source, W: Sink>(
     ensures flushed { OnOk result (W.is_flushed writer.new ≡ true) }
 {
     let amender = copy_part(alloc, reader, request, writer)?;
-    check_outcome(&amender)
+    outcome_of(amender)
 }
 
 /// Copies what is asked for of a file, as far as its declarations do not refuse the request.
@@ -103,9 +104,9 @@ fn copy_part<'m, 'a, R: Source, W: Sink>(
     Ok(amender)
 }
 
-/// Why what was copied is no part, if it is none.
-fn check_outcome<'a>(amender: &PartAmender<'_, 'a>) -> Result<(), PartError<'a>>
-    ensures { OutcomeOf amender.now result }
+/// What comes of a copy that has no fault.
+fn outcome_of<'a>(amender: PartAmender<'_, 'a>) -> Result<WrittenPart, PartError<'a>>
+    ensures { OutcomeOf amender.entry result }
 {
     if let Some(refusal) = amender.refusal {
         return Err(PartError::Refused {
@@ -117,6 +118,6 @@ fn check_outcome<'a>(amender: &PartAmender<'_, 'a>) -> Result<(), PartError<'a>>
         Some(window) if amender.tick < window.first => Err(PartError::PastEnd {
             end: amender.tick,
         }),
-        _ => Ok(()),
+        window => Ok(written_part(amender, window)),
     }
 }

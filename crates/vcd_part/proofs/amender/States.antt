@@ -1,5 +1,5 @@
 -- The states of a file before and after a piece, and what an item that comes next says of them.
-use Rattle.std.proofs.Common.{◌≡◌, ◌∙◌, ◌&&◌, ◌<◌, ◌≤◌, ℕ, Bool, true, false, not, List, [], ◌∷◌, ◌++◌, map, length}
+use Rattle.std.proofs.Common.{◌≡◌, ◌∙◌, ◌&&◌, ◌<◌, ◌≤◌, ℕ, Bool, true, false, not, List, [], ◌∷◌, ◌++◌, length}
 use Rattle.std.proofs.Common.{refl, sym, ap, subst, Some, None, inl, inr, nat_le, arith}
 use Rattle.std.proofs.lemmas.Bool.{and_parts, false≢true, cases_lt, lt-leb}
 use Rattle.std.proofs.lemmas.List.{map-append}
@@ -9,8 +9,8 @@ use Rattle.vcd_core.specs.declared.capture.TheConstants.{END_LIMIT}
 use Rattle.vcd_text.specs.declared.fault.Fault.TheVariants.{BadTime, TimeBackwards}
 use Rattle.vcd_text.specs.Words.{words_of}
 use Rattle.vcd_text.specs.Items.{Item, entry, timescale, scope, upscope, variable, end_definitions, stamp, scalar}
-use Rattle.vcd_text.specs.Items.{vector, real_or_string, dump_word, other, spelling, has_no_end_word}
-use Rattle.vcd_text.specs.Grammar.{ParseState, VariableDeclaration, initial_state, Allows, AllowsAll, item_tests}
+use Rattle.vcd_text.specs.Items.{vector, real_or_string, dump_word, other, spelling}
+use Rattle.vcd_text.specs.Grammar.{ParseState, initial_state, Allows, AllowsAll, item_tests}
 use Rattle.vcd_text.specs.Grammar.{state_after, state_after_item, declaration_of, word_texts}
 use Rattle.vcd_text.specs.Pieces.{Piece, state_of_pieces}
 use Rattle.vcd_text.specs.Copied.{IsNext, piece_items}

@@ -15,7 +15,9 @@ use Rattle.vcd_text.specs.Grammar.{VariableDeclaration}
 use Rattle.vcd_part.specs.declared.patterns.Patterns.{Patterns}
 use Rattle.vcd_part.specs.declared.request.Request.{Request}
 use Rattle.vcd_part.specs.Pattern.{meets}
-use Rattle.vcd_part.specs.Requests.{texts, meets_one, keeps_name, is_met, keeps, leaves_none}
+use Rattle.vcd_part.specs.Requests.{texts, meets_one, keeps_name, is_met, keeps, removes, leaves_none}
+use Rattle.vcd_part.specs.WrittenPart.{removed_variable}
+use Rattle.vcd_part.specs.declared.removed.RemovedVariable.{RemovedVariable}
 use Rattle.vcd_text.specs.AsDeclared.{declared_name}
 use Rattle.vcd_part.specs.PartPieces.{bounded_count, kept_count, all_count}
 use Rattle.vcd_part.specs.inside.Patterns.{HaveMet}
@@ -89,6 +91,34 @@ is_kept r keep remove name declared among removed kept keep_is remove_is same me
     is ∙ ap₂ (λ a b. a && not b)
     (meets_keep ∙ ap₂ (λ p n. meets_one true (texts p) n) keep_is same)
     (meets_remove ∙ ap₂ (λ p n. meets_one false (texts p) n) remove_is same)
+
+-- a name is to be removed
+pub is_removed : (r : Request) (remove : Option (Bor (List (Bor (List ℕ))))) (d : VariableDeclaration)
+    (name : List ℕ) (removed : Bool) → remove ≡ r.remove → name ≡ declared_name d
+    → removed ≡ meets_one false (texts remove) name → removed ≡ removes r d
+is_removed r remove d name removed remove_is same meets =
+    meets ∙ ap₂ (λ p n. meets_one false (texts p) n) remove_is same
+
+-- one more of those to remove
+pub removed_more : (r : Request) (declared : List VariableDeclaration) (d : VariableDeclaration)
+    (before : List RemovedVariable) (removed : Bool) (name code : List ℕ)
+    → before ≡ map removed_variable (filter (removes r) declared) → removed ≡ removes r d → name ≡ declared_name d
+    → d.code ≡ code → (if removed then before ++ record { name = name; code = code } ∷ [] else before)
+    ≡ map removed_variable (filter (removes r) (declared ++ d ∷ []))
+removed_more r declared d before removed name code before_are is same same_code =
+    (λ i. if is i then before_are i ++ record { name = same i; code = sym same_code i } ∷ [] else before_are i)
+    ∙ by_test (removes r d) refl
+    ∙ sym (ap (map removed_variable) (filter-append (removes r) declared (d ∷ []))
+    ∙ map-append removed_variable noted (filter (removes r) (d ∷ [])))
+  where
+    noted : List VariableDeclaration
+    noted = filter (removes r) declared
+
+    by_test : (b : Bool) → removes r d ≡ b
+        → (if removes r d then map removed_variable noted ++ removed_variable d ∷ [] else map removed_variable noted)
+        ≡ map removed_variable noted ++ map removed_variable (filter (removes r) (d ∷ []))
+    by_test true is = rw is refl
+    by_test false is = rw is (sym (append-nil (map removed_variable noted)))
 
 -- one more name
 pub met_more : (p : Patterns) (declared : List VariableDeclaration) (d : VariableDeclaration) (name : List ℕ)

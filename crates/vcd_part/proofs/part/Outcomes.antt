@@ -17,8 +17,10 @@ use Rattle.vcd_part.specs.Requests.{unmet}
 use Rattle.vcd_part.specs.inside.PartCopy.{part_rules}
 use Rattle.vcd_part.specs.PartEnds.{IsPart, IsRefused, IsPastEnd, PartEnds}
 use Rattle.vcd_part.specs.declared.part.PartError.{PartError}
+use Rattle.vcd_part.specs.declared.written_part.WrittenPart.{WrittenPart}
+use Rattle.vcd_part.specs.WrittenPart.{written_part}
 use Rattle.vcd_part.specs.declared.part.PartError.TheVariants as errors
-use Rattle.vcd_part.specs.inside.PartAmender.{HasSeen, OutcomeOf, refusal_of}
+use Rattle.vcd_part.specs.inside.PartAmender.{HasSeen, IsSaid, OutcomeOf, refusal_of}
 use Rattle.vcd_text.proofs.shared.StatesOfPieces.{at_any_limit}
 use Rattle.vcd_part.proofs.amender.Decided.{answer_in, answer_with_window, answer_without_window, answer_with_refusal}
 use Rattle.vcd_part.proofs.part.CopiedPieces.{part_is_copied}
@@ -66,16 +68,23 @@ decides m pieces seen body none = by_window m.window refl
         ∙ ap (λ (b : Bool). if b then refusal_of (answer_in m.request s) else None) here ∙ ap refusal_of answer in
         absurd (cc)
 
+-- the window begins up to the end
+abbrev IsWithin : PartAmender → WrittenPart → TickRange → Type 0
+IsWithin m written w = (w.first ≤ m.tick) × IsSaid m w written
+
 -- the copy is a part
-pub is_part : (m : PartAmender) (file text : List ℕ) → IsCopy VARIABLE_LIMIT (part_rules m.request) file text
+pub is_part : (m : PartAmender) (file text : List ℕ) (written : WrittenPart)
+    → IsCopy VARIABLE_LIMIT (part_rules m.request) file text
     → IsTold VARIABLE_LIMIT (is_some m.refusal) (HasSeen m) file → m.refusal ≡ None
-    → IfSome m.window (λ w. w.first ≤ m.tick) → IsPart m.request file text
-is_part m file text copy told none within =
+    → IfSome m.window (IsWithin m written) → IsPart m.request file text written
+is_part m file text written copy told none said =
     let t = not_done m file none told in
     let same = told_items VARIABLE_LIMIT (part_rules m.request) (HasSeen m) file text copy t in
     let state : state_of_pieces VARIABLE_LIMIT t.pieces ≡ state_of_pieces VARIABLE_LIMIT copy.pieces =
     ap (state_after (initial_state VARIABLE_LIMIT)) (sym same) in
     let d = decides m t.pieces t.is_told (t.all refl).1 none in
+    let here : IsWithin m written d.window =
+    subst (λ (o : Option TickRange). IfSome o (IsWithin m written)) d.known said in
     record {
       pieces = copy.pieces;
       tail = copy.tail;
@@ -87,10 +96,11 @@ is_part m file text copy told none within =
         decided = ap (answer_in m.request) (sym state) ∙ d.decided;
         within = subst (λ (t : ℕ). d.window.first ≤ t) (t.is_told.known.tick
             ∙ sym (ap (λ (s : ParseState). s.tick) (at_any_limit VARIABLE_LIMIT t.pieces))
-            ∙ ap (λ (s : ParseState). s.tick) state)
-            (subst (λ (o : Option TickRange). IfSome o (λ w. w.first ≤ m.tick)) d.known within);
+            ∙ ap (λ (s : ParseState). s.tick) state) here.0;
       };
       is = copy.is ∙ part_is_copied m.request copy.pieces copy.tail;
+      said = here.1 t.pieces t.is_told ∙ ap (λ (s : ParseState). written_part m.request s d.window)
+          (sym (at_any_limit VARIABLE_LIMIT t.pieces) ∙ state);
     }
 
 -- the request is refused
@@ -157,16 +167,17 @@ module _ (m : PartAmender) (r : Request) (same : m.request ≡ r) (capture out :
   whole : is_some m.refusal ≡ false → IsRead LONG_FILE_LIMIT capture
   whole ready = (read, ended ready, IfSome_then capture.before (copied ready) (λ file is. is.0))
 
-  pub part_ends : (result : Result Unit PartError) → OutcomeOf m result → PartEnds r capture out result
+  pub part_ends : (result : Result WrittenPart PartError) → OutcomeOf m result → PartEnds r capture out result
   unfolding PartEnds
-  part_ends (Ok done) (none, within) =
+  part_ends (Ok written) (none, said) =
       let ready = ap is_some none in (
         whole ready,
         wrote,
         both_some capture.before (copied ready) told (λ file is t.
             let (small, text, copy, appends) = is in (
               text,
-              subst (λ q. IsPart q file text) same (is_part m file text (own_rules file text copy) t none within),
+              subst (λ q. IsPart q file text written) same
+                  (is_part m file text written (own_rules file text copy) t none said),
               appends,
             )),
       )

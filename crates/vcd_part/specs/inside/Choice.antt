@@ -1,10 +1,12 @@
 -- Which variables are kept, as they are declared.
-use Rattle.std.specs.Prelude.{◌≡◌, List, map}
+use Rattle.std.specs.Prelude.{◌≡◌, List, map, filter}
 use Rattle.vcd_text.specs.Grammar.{VariableDeclaration}
 use Rattle.vcd_part.specs.declared.choice.VariableChoice.{VariableChoice}
 use Rattle.vcd_part.specs.declared.request.Request.{Request}
 use Rattle.vcd_text.specs.AsDeclared.{declared_name}
+use Rattle.vcd_part.specs.Requests.{removes}
 use Rattle.vcd_part.specs.PartPieces.{kept_count, all_count}
+use Rattle.vcd_part.specs.WrittenPart.{removed_variable}
 use Rattle.vcd_part.specs.inside.Patterns.{HaveMet}
 
 -- of a request these declarations were noted
@@ -17,3 +19,4 @@ pub record HasNoted (c : VariableChoice) (r : Request)
     pub remove_met : HaveMet c.remove (map declared_name declared)
     pub kept : c.kept ≡ kept_count r declared
     pub all : c.all ≡ all_count declared
+    pub removed : c.removed.items ≡ map removed_variable (filter (removes r) declared)

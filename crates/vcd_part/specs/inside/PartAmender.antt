@@ -4,6 +4,7 @@ use Rattle.std.specs.Prelude.{Option, Some, None}
 use Rattle.std.specs.Prelude.{Result, Ok, Err, IfSome, ◌≤◌, ◌<◌, ◌++◌, option_map, All, length}
 use Rattle.vcd_part.specs.declared.part.PartError.{PartError}
 use Rattle.vcd_part.specs.declared.part.PartError.TheVariants as errors
+use Rattle.vcd_part.specs.declared.written_part.WrittenPart.{WrittenPart}
 use Rattle.vcd_text.specs.Grammar.{ParseState}
 use Rattle.vcd_text.specs.Pieces.{Piece, state_of_pieces}
 use Rattle.vcd_text.specs.Copied.{CopyRules}
@@ -13,6 +14,7 @@ use Rattle.vcd_part.specs.declared.request.Request.{Request}
 use Rattle.vcd_part.specs.declared.request.Refusal.{Refusal}
 use Rattle.vcd_part.specs.Requests.{decide, unmet}
 use Rattle.vcd_part.specs.PartPieces.{is_up_to_first, pieces_at_end}
+use Rattle.vcd_part.specs.WrittenPart.{written_part}
 use Rattle.vcd_text.specs.Pieces.{piece_bytes}
 use Rattle.vcd_part.specs.inside.Choice.{HasNoted}
 use Rattle.vcd_part.specs.inside.CodeUses.{AreUses, HoldLast}
@@ -65,9 +67,15 @@ rules_of r = record (part_rules r) {
       (if (state_of_pieces 0 pieces).in_body then pieces_at_end r pieces else [])) ++ tail;
 }
 
+-- this is what there is to say of the part with this window
+abbrev pub IsSaid : PartAmender → TickRange → WrittenPart → Type 0
+IsSaid m w written = (before : List Piece) → HasSeen m before
+    → written ≡ written_part m.request (state_of_pieces 0 before) w
+
 -- what comes of a copy: a refusal, or a window that begins past the end, or else a part
-abbrev pub OutcomeOf : PartAmender → Result Unit PartError → Type 0
-OutcomeOf m (Ok done) = (m.refusal ≡ None) × IfSome m.window (λ w. w.first ≤ m.tick)
+abbrev pub OutcomeOf : PartAmender → Result WrittenPart PartError → Type 0
+OutcomeOf m (Ok written) = (m.refusal ≡ None)
+    × IfSome m.window (λ w. (w.first ≤ m.tick) × IsSaid m w written)
 OutcomeOf m (Err (errors.Copy e)) = ⊥
 OutcomeOf m (Err (errors.Refused refusal pattern)) = (m.refusal ≡ Some refusal)
     × ((before : List Piece) → HasSeen m before

@@ -1,15 +1,14 @@
 -- The bytes of the part of a file spell the items of its pieces.
-use Rattle.std.proofs.Common.{◌≡◌, ℕ, ◌∙◌, ◌≤◌, ◌<◌, Bool, true, false, not, List, [], ◌∷◌, ◌++◌, refl, ap, sym}
-use Rattle.std.proofs.Common.{arith, All, drop, length, decimal, append_assoc, if◌then◌else◌, None}
+use Rattle.std.proofs.Common.{◌≡◌, ℕ, ◌∙◌, ◌≤◌, Bool, true, false, not, List, [], ◌∷◌, ◌++◌, refl}
+use Rattle.std.proofs.Common.{arith, All, drop, decimal, if◌then◌else◌, None}
 use Rattle.std.specs.Prelude.{Result, Ok, Err, option_to_list}
 use Rattle.std.specs.List.{list_all, list_any}
-use Rattle.std.proofs.lemmas.Bool.{and_parts}
-use Rattle.std.proofs.lemmas.List.Elements.{All-nil, All-cons, All-head, All-tail, All-append, All-drop}
+use Rattle.std.proofs.lemmas.List.Elements.{All-nil, All-cons, All-append, All-drop}
 use Rattle.vcd_core.specs.Word.{is_white_space}
 use Rattle.vcd_core.specs.declared.capture.TheConstants.{END_LIMIT}
 use Rattle.vcd_text.specs.Words.{words_of}
 use Rattle.vcd_text.specs.Items.{Item, entry, timescale, scope, upscope, variable, end_definitions, stamp, scalar}
-use Rattle.vcd_text.specs.Items.{vector, real_or_string, dump_word, other, spelling, spellings}
+use Rattle.vcd_text.specs.Items.{vector, real_or_string, dump_word, other, spellings}
 use Rattle.vcd_text.specs.Grammar.{ParseState, AllowsAll, initial_state, word_texts, state_after_item}
 use Rattle.vcd_text.specs.Grammar.{declaration_of}
 use Rattle.vcd_text.specs.Pieces.{Piece, IsCut, state_of_pieces}

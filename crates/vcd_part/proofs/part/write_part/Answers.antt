@@ -13,4 +13,4 @@ pub returns-clause-ends : goal.returns-clause-ends
 returns-clause-ends g c =
     let copied = c.in_ok-amender.ensures in
     part_ends c.in_ok-amender.amender c.args.request copied.request _ _ copied.reader_not_failed copied.not_failed
-    copied.ended copied.copied copied.told c.check_outcome.result c.check_outcome.ensures
+    copied.ended copied.copied copied.told c.outcome_of.result c.outcome_of.ensures

@@ -2,9 +2,10 @@ use Rattle.std.proofs.Common.{◌∙◌, ap, sym, refl}
 use Rattle.vcd_core.specs.Decimal.{is_number, number_of}
 use Rattle.vcd_text.specs.Pieces.{piece_bytes, state_of_pieces}
 use Rattle.vcd_text.specs.Grammar.{ParseState}
-use Rattle.vcd_text.proofs.shared.EmittedParts.{writes_as}
+use Rattle.vcd_text.proofs.shared.EmittedParts.{writes_as, more_none}
 use Rattle.vcd_part.proofs.amender.NextVariable.{words_next, declared_by, same_scopes, variable_bytes, variable_seen}
 use Rattle.vcd_part.proofs.amender.NextVariable.{before_body}
+use Rattle.vcd_part.proofs.amender.Written.{on_error}
 use Rattle.vcd_part.proofs.amender.Waiting.{seen_with, settled_out}
 use Rattle.vcd_part.proofs.amender.PartAmender.take_variable.Goals as goal
 
@@ -17,6 +18,9 @@ pub returns-in_default-clause-seen : goal.returns-in_default-clause-seen
 returns-in_default-clause-seen g c = λ limit before p code seen taken.
     let v = words_next limit before p code _ _ _ taken in
     absurd (c.in_default.ensures v.kind v.size v.code v.names v.is_variable)
+
+pub returns-in_err-is_kept-clause-more : goal.returns-in_err-is_kept-clause-more
+returns-in_err-is_kept-clause-more g c = on_error c.from_residual.result more_none
 
 pub returns-clause-written : goal.returns-clause-written
 returns-clause-written g c = λ limit before p code seen taken.
@@ -45,7 +49,7 @@ returns-clause-seen g c = λ limit before p code seen taken.
     (before_body limit before p code _ _ _ taken) in
     seen_with (record m { choice = c.note.new.self; codes = c.note_variable.new.self }) m.waiting before p _ refl
     (variable_seen limit before p code _ _ _ taken v m c.note.new.self c.note_variable.new.self known
-    (c.in_ok-is_kept.ensures.noted m.request s.declared d known.noted scopes later)
+    (c.in_ok-is_kept.ensures.noted m.request s.declared d known.noted scopes (sym co) later)
     (c.in_ok-note_variable.ensures.uses m.request s.declared d known.uses k (ap is_number z ∙ v.number)
     (ap number_of z) co kept)
     (λ out. c.in_ok-note_variable.ensures.none m.request s.declared d known.uses k co kept (known.holds_none out)))

@@ -4,7 +4,8 @@ use Rattle.vcd_core.specs.FullName.{name_bytes}
 use Rattle.vcd_core.specs.Names.{name_in}
 use Rattle.vcd_part.specs.Requests.{keeps}
 use Rattle.vcd_text.specs.AsDeclared.{declared_name}
-use Rattle.vcd_part.proofs.choice.NotedVariables.{same_name, is_kept, met_more, one_counted, all_counted}
+use Rattle.vcd_part.proofs.choice.NotedVariables.{same_name, is_kept, is_removed, met_more, removed_more}
+use Rattle.vcd_part.proofs.choice.NotedVariables.{one_counted, all_counted}
 use Rattle.vcd_part.proofs.choice.VariableChoice.note.Goals as goal
 
 pub returns-clause-kept : goal.returns-clause-kept
@@ -13,22 +14,24 @@ returns-clause-kept c = λ r declared d noted scopes words.
     let name : name_bytes c.new-name.result ≡ declared_name d =
     c.new-name.ensures ∙ same_name c.args.scopes.now _ d.words text ∙ ap (λ s. name_in s d.words) (sym scopes) in
     is_kept r c.args.self.now.keep.patterns c.args.self.now.remove.patterns _ _ _ _ _ noted.keep_is noted.remove_is
-    name c.note.ensures.meets c.note-2.ensures.meets c.is_kept-is_kept.ensures
+    name c.note-is_among_kept.ensures.meets c.note-is_removed.ensures.meets c.is_kept-is_kept.ensures
 
 pub returns-clause-noted : goal.returns-clause-noted
-returns-clause-noted c = λ r declared d noted scopes words.
+returns-clause-noted c = λ r declared d noted scopes code words.
     let text = c.as_slice.ensures.value ∙ c.in_ok-read_name.ensures d.words words in
     let name : name_bytes c.new-name.result ≡ declared_name d =
     c.new-name.ensures ∙ same_name c.args.scopes.now _ d.words text ∙ ap (λ s. name_in s d.words) (sym scopes) in
     let kept = is_kept r c.args.self.now.keep.patterns c.args.self.now.remove.patterns _ _ _ _ _ noted.keep_is
-    noted.remove_is name c.note.ensures.meets c.note-2.ensures.meets c.is_kept-is_kept.ensures in
+    noted.remove_is name c.note-is_among_kept.ensures.meets c.note-is_removed.ensures.meets c.is_kept-is_kept.ensures in
     record {
-      keep_is = c.note.ensures.same ∙ noted.keep_is;
-      remove_is = c.note-2.ensures.same ∙ noted.remove_is;
-      keep_met = met_more c.note.new.self declared d _ name
-          (c.note.ensures.met (map declared_name declared) noted.keep_met);
-      remove_met = met_more c.note-2.new.self declared d _ name
-          (c.note-2.ensures.met (map declared_name declared) noted.remove_met);
+      keep_is = c.note-is_among_kept.ensures.same ∙ noted.keep_is;
+      remove_is = c.note-is_removed.ensures.same ∙ noted.remove_is;
+      keep_met = met_more c.note-is_among_kept.new.self declared d _ name
+          (c.note-is_among_kept.ensures.met (map declared_name declared) noted.keep_met);
+      remove_met = met_more c.note-is_removed.new.self declared d _ name
+          (c.note-is_removed.ensures.met (map declared_name declared) noted.remove_met);
       kept = c.count-self.ensures ∙ one_counted (keeps r) declared d _ _ noted.kept kept;
       all = c.saturating_add-self.ensures ∙ all_counted declared d _ noted.all;
+      removed = c.in_ok-note_removed.ensures ∙ removed_more r declared d _ _ _ _ noted.removed
+          (is_removed r _ d _ _ noted.remove_is name c.note-is_removed.ensures.meets) name code;
     }

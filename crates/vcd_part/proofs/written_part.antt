@@ -1,0 +1,2 @@
+-- Lemmas of `written_part`.
+pub mod SaidOfParts
