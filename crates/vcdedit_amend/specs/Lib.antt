@@ -4,5 +4,6 @@ pub mod CommandLine
 pub mod Sums
 pub mod ProgramEnds
 pub mod PartOutcome
+pub mod PartRemarks
 pub mod OptionsEnd
 pub mod Marks

@@ -11,6 +11,7 @@ use Rattle.vcd_amend.specs.declared.running.AmendRunError.TheVariants as amend_r
 use Rattle.vcd_part.specs.declared.part.PartError.{PartError}
 use Rattle.vcd_part.specs.declared.part.PartError.TheVariants as part_errors
 use Rattle.vcd_part.specs.declared.request.Request.{Request}
+use Rattle.vcd_part.specs.declared.written_part.WrittenPart.{WrittenPart}
 use Rattle.vcd_part.specs.declared.time.Time.{Time}
 use Rattle.vcd_part.specs.declared.time.Time.TheVariants.{Ticks}
 use Rattle.vcd_part.specs.PartEnds.{PartEnds}
@@ -63,8 +64,8 @@ IsPartFileFault e =
     (e ≡ no_part_file) ⊎ (e ≡ errors.Run (amend_run_errors.Run (run_errors.NoMemory 0)))
 
 -- the result of taking a part, with the error of the program
-abbrev pub IsTaken : Request → (capture out : DeviceEnd) → Result Unit AmendError → Type 0
-IsTaken r capture out (Ok done) = PartEnds r capture out (Ok done)
+abbrev pub IsTaken : Request → (capture out : DeviceEnd) → Result WrittenPart AmendError → Type 0
+IsTaken r capture out (Ok written) = PartEnds r capture out (Ok written)
 IsTaken r capture out (Err e) =
     (error : PartError) × PartEnds r capture out (Err error) × (e ≡ part_error error)
 
@@ -88,7 +89,7 @@ IsOutcomeOfRequest o r outcome =
     × (outcome ≡ Err e))
     ⊎ ((capture out : DeviceEnd) × (e : AmendError) × IsTaken r capture out (Err e)
     × (outcome ≡ Err e))
-    ⊎ ((capture out : DeviceEnd) × (done : Unit) × IsTaken r capture out (Ok done)
+    ⊎ ((capture out : DeviceEnd) × (written : WrittenPart) × IsTaken r capture out (Ok written)
     × IsOutcomeOfTaken o outcome)
 
 -- the outcome of options that ask for a part

@@ -237,5 +237,5 @@ fn quiet_option<'a>(alloc: Global) -> Arg<'a>
     Arg::new(alloc, "quiet")
         .long("quiet")
         .action(ArgAction::SetTrue)
-        .help("Write no remarks on the lines of the script")
+        .help("Write no remarks")
 }

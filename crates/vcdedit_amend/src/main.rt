@@ -8,10 +8,13 @@
 mod amend_error;
 mod capture_mark;
 mod command_line;
+mod file_reasons;
+mod mark_search;
 mod memory_forecast;
 mod near;
 mod part;
 mod part_file;
+mod part_remarks;
 mod part_words;
 mod passes;
 mod program;

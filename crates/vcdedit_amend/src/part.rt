@@ -12,6 +12,7 @@ use crate::capture_mark::{digest_of, head_of};
 use crate::command_line::Options;
 use crate::near::tell_unmet;
 use crate::part_file::PartFile;
+use crate::part_remarks::remark_on_part;
 use crate::part_words::request_of;
 use crate::passes::{CaptureFile, refuse_replaced};
 use crate::program::run_on_file;
@@ -20,7 +21,7 @@ use std::{fs, io};
 use vcd_amend::{AmendRunError, Nowhere};
 use vcd_core::{FromRead, Sink, Source, ToWrite};
 use vcd_journal::DEPTH_LIMIT;
-use vcd_part::{Request, write_part};
+use vcd_part::{Request, WrittenPart, write_part};
 use vcd_script::{RunError, Summary};
 use vcd_shell::{SafeFile, open_capture};
 use vcd_text::{MarkHead, WriteError};
@@ -110,8 +111,8 @@ fn write_output<R: Runtime + AllocGlobal, C: Source>(
     ensures { spec.IsOutcomeOfRequest (options_in options.now) request.entry result }
 {
     match options.output {
-        Some(output) => write_to_file(rt, source, again, request, output),
-        None => write_to_standard(rt, source, again, request),
+        Some(output) => write_to_file(rt, source, again, request, output, options.is_quiet),
+        None => write_to_standard(rt, source, again, request, options.is_quiet),
     }
 }
 
@@ -123,13 +124,14 @@ fn find_file<'a, R: Runtime>(rt: &R, path: Option<&'a str>) -> Option<CaptureFil
     }
 }
 
-/// Writes the part to a file, which is then put in its place.
+/// Writes the part to a file, which is then put in its place, and remarks on it.
 fn write_to_file<R: Runtime + AllocGlobal, C: Source>(
     rt: &R,
     source: &mut C,
     again: Option<CaptureFile<'_>>,
     request: Request<'_, '_>,
     path: &str,
+    is_quiet: bool,
 ) -> Result<Summary, AmendError>
     requires { C.has_failed source.old ≡ false }
     ensures { (o : AskedOptions) → o.script ≡ None → o.output ≡ Some path.now →
@@ -139,18 +141,20 @@ fn write_to_file<R: Runtime + AllocGlobal, C: Source>(
     if !file.is_beside() {
         check_first(rt, again, request)?;
     }
-    take_part(rt, source, again, request, &mut file)?;
+    let written = take_part(rt, source, again, request, &mut file)?;
     refuse_replaced(rt, again)?;
     file.commit()?;
+    remark_on_part(rt, is_quiet, &written);
     Ok(Summary { refused: 0 })
 }
 
-/// Writes the part to standard output.
+/// Writes the part to standard output, and remarks on it.
 fn write_to_standard<R: Runtime + AllocGlobal, C: Source>(
     rt: &R,
     source: &mut C,
     again: Option<CaptureFile<'_>>,
     request: Request<'_, '_>,
+    is_quiet: bool,
 ) -> Result<Summary, AmendError>
     requires { C.has_failed source.old ≡ false }
     ensures { (o : AskedOptions) → o.script ≡ None →
@@ -158,12 +162,14 @@ fn write_to_standard<R: Runtime + AllocGlobal, C: Source>(
 {
     check_first(rt, again, request)?;
     let mut standard = ToWrite::new(io::writer(rt));
-    take_part(rt, source, again, request, &mut standard)?;
+    let written = take_part(rt, source, again, request, &mut standard)?;
     refuse_replaced(rt, again)?;
+    remark_on_part(rt, is_quiet, &written);
     Ok(Summary { refused: 0 })
 }
 
-/// Takes the part to a file of its own, and carries the script out on it, or none for a mark.
+/// Takes the part to a file of its own, remarks on it, and carries the script out on it, or none
+/// for a mark.
 fn run_on_part<R: Runtime + AllocGlobal, C: Source>(
     rt: &R,
     source: &mut C,
@@ -181,7 +187,10 @@ fn run_on_part<R: Runtime + AllocGlobal, C: Source>(
 {
     let (part, file) = PartFile::create(rt)?;
     match hold_part(rt, source, again, request, file) {
-        Ok(()) => run_on_file_of(rt, &part, again, mark, options),
+        Ok(written) => {
+            remark_on_part(rt, options.is_quiet, &written);
+            run_on_file_of(rt, &part, again, mark, options)
+        }
         Err(error) => Err(on_part_file(error)),
     }
 }
@@ -193,7 +202,7 @@ fn hold_part<R: Runtime + AllocGlobal, C: Source>(
     again: Option<CaptureFile<'_>>,
     request: Request<'_, '_>,
     file: R::File,
-) -> Result<(), AmendError>
+) -> Result<WrittenPart, AmendError>
     requires { C.has_failed source.old ≡ false }
     ensures { (capture : DeviceEnd) × (out : DeviceEnd)
         × spec.IsTaken request.entry capture out result }
@@ -236,17 +245,19 @@ fn check_first<R: Runtime + AllocGlobal>(
         return Ok(());
     };
     let mut source = file.open(rt)?;
-    take_part(rt, &mut source, again, request, &mut Nowhere::new())
+    take_part(rt, &mut source, again, request, &mut Nowhere::new())?;
+    Ok(())
 }
 
-/// Takes the part. If a pattern matches no name, standard error has the nearest names.
+/// Takes the part, and returns what there is to say of it. If a pattern matches no name, standard
+/// error has the nearest names.
 fn take_part<R: Runtime + AllocGlobal, C: Source, W: Sink>(
     rt: &R,
     source: &mut C,
     again: Option<CaptureFile<'_>>,
     request: Request<'_, '_>,
     writer: &mut W,
-) -> Result<(), AmendError>
+) -> Result<WrittenPart, AmendError>
     requires reader_ready { C.has_failed source.old ≡ false }
     requires writer_ready { W.has_failed writer.old ≡ false }
     ensures taken { spec.IsTaken request.entry
@@ -255,7 +266,7 @@ fn take_part<R: Runtime + AllocGlobal, C: Source, W: Sink>(
     ensures flushed { OnOk result (W.is_flushed writer.new ≡ true) }
 {
     match write_part(rt.alloc(), source, request, writer) {
-        Ok(()) => Ok(()),
+        Ok(written) => Ok(written),
         Err(error) => {
             tell_unmet(rt, again, &error);
             Err(error.into())

@@ -8,6 +8,7 @@ ghost use Rattle.vcdedit_amend.specs.declared.amend_error.AmendError.TheVariants
 ghost use Rattle.vcd_amend.specs.declared.running.AmendRunError.TheVariants as run_errors;
 
 use crate::amend_error::{AmendError, NOT_READ};
+use crate::mark_search::MarkSearch;
 use crate::memory_forecast::MemoryForecast;
 use crate::progress::{Watch, Watched};
 use crate::summed::Summed;
@@ -80,11 +81,12 @@ impl<'a> CaptureFile<'a> {
     {
         let watch = Watch::begin(rt, self.state.length);
         let forecast = Some(MemoryForecast::new(self.state.length));
+        let search = Some(MarkSearch::new());
         Ok(Passes {
-            declarations: open_pass(rt, self.path, watch, "compares the passes", None)?,
-            outline: open_pass(rt, self.path, watch, "checks the capture", None)?,
-            changes: open_pass(rt, self.path, watch, "reads the changes", forecast)?,
-            copy: open_pass(rt, self.path, watch, "writes the output", None)?,
+            declarations: open_pass(rt, self.path, watch, "compares the passes", None, search)?,
+            outline: open_pass(rt, self.path, watch, "checks the capture", None, None)?,
+            changes: open_pass(rt, self.path, watch, "reads the changes", forecast, None)?,
+            copy: open_pass(rt, self.path, watch, "writes the output", None, None)?,
         })
     }
 
@@ -114,20 +116,27 @@ pub fn refuse_replaced<R: Files>(
     }
 }
 
-/// Opens the capture for one pass, with a forecast if it holds changes.
+/// Opens the capture for one pass, with a forecast if it holds changes, and a search for a mark if
+/// one is looked for in it.
 fn open_pass<'a, R: Runtime>(
     rt: &'a R,
     path: &str,
     watch: Watch,
     task: &'static str,
     forecast: Option<MemoryForecast>,
+    search: Option<MarkSearch>,
 ) -> Result<Pass<'a, R>, AmendError>
     ensures ready { IfOk result (λ s. ⟦<Pass<'a, R> as Source>⟧.has_failed s ≡ false) }
     ensures fault { IfErr result (λ e. e ≡ not_read) }
 {
     let file = fs::open(rt, path).map_err(|_| NOT_READ)?;
-    let source = Watched::new(rt, FromRead::new(file), watch, task, forecast);
+    let source = Watched::new(rt, FromRead::new(file), watch, task, forecast, search);
     Ok(Summed::new(source))
+}
+
+/// Whether a mark of an earlier run was found while the passes were read.
+pub fn have_found_mark<R: Runtime>(passes: &mut Passes<Pass<'_, R>>) -> bool {
+    passes.declarations.source().has_found_mark()
 }
 
 /// Takes what the passes have shown from the terminal.

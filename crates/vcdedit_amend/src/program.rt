@@ -15,8 +15,11 @@ ghost use Rattle.vcdedit_amend.specs.Sums.{HaveOneSum};
 use crate::amend_error::{AmendError, NO_MEMORY, NO_SCRIPT};
 use crate::capture_mark::{digest_of, head_of};
 use crate::command_line::{Options, command_line, options_of};
+use crate::file_reasons::tell_reason;
 use crate::part::run_part;
-use crate::passes::{CaptureFile, Pass, clear_progress, refuse_changed, refuse_replaced};
+use crate::passes::{
+    CaptureFile, Pass, clear_progress, have_found_mark, refuse_changed, refuse_replaced,
+};
 use crate::remarks::Remarks;
 use crate::reporting::{PROGRAM, report};
 use crate::summed::Summed;
@@ -75,7 +78,12 @@ impl Program for VcdeditAmend {
         rt: &R,
         matches: &ArgMatches<'_>,
     ) -> Result<Summary, AmendError> {
-        run_options(rt, &options_of(matches))
+        let options = options_of(matches);
+        let outcome = run_options(rt, &options);
+        if let Err(error) = &outcome {
+            tell_reason(rt, &options, error);
+        }
+        outcome
     }
 
     fn report<W: Sink>(outcome: &Result<Summary, AmendError>, writer: &mut W) -> u8 {
@@ -142,7 +150,19 @@ pub fn run_on_file<R: Runtime + AllocGlobal>(
     let mut passes = capture.open_passes(rt)?;
     let outcome = run_passes(rt, guarded, &mut passes, mark, options);
     clear_progress(&mut passes);
+    if outcome.is_ok() && options.output.is_some() && !options.is_marked && !options.is_quiet {
+        tell_earlier_mark(rt, &mut passes);
+    }
     outcome
+}
+
+/// Tells that the capture has a mark, which stays in the output.
+fn tell_earlier_mark<'a, R: Runtime>(rt: &'a R, passes: &mut Passes<Pass<'a, R>>) {
+    if have_found_mark(passes) {
+        let _ = eprintln!(rt;
+            "output: the mark of an earlier run stays, and tells nothing of this one"
+        );
+    }
 }
 
 /// Opens the script, and runs.

@@ -4,6 +4,7 @@ use Rattle.std.specs.Prelude.{Result, Ok, Err, IsErrAnd}
 use Rattle.vcd_core.specs.Devices.{DeviceEnd}
 use Rattle.vcd_script.specs.declared.running.run_error.Summary.{Summary}
 use Rattle.vcd_part.specs.declared.request.Request.{Request}
+use Rattle.vcd_part.specs.declared.written_part.WrittenPart.{WrittenPart}
 use Rattle.vcdedit_amend.specs.declared.amend_error.AmendError.{AmendError}
 use Rattle.vcdedit_amend.specs.CommandLine.{AskedOptions}
 use Rattle.vcdedit_amend.specs.ProgramEnds.{IsOutcomeOnFile, not_read}
@@ -38,9 +39,9 @@ refused_on_file o r capture out error e (inl same) taken = rw same (refused o r 
 refused_on_file o r capture out error e (inr none) taken = no_file o r e (inl none)
 
 -- the script is carried out on the part
-pub carried_out : (o : AskedOptions) (r : Request) (capture out : DeviceEnd) (done : Unit)
-    (outcome : Result Summary AmendError) → IsTaken r capture out (Ok done) → IsHeld o
+pub carried_out : (o : AskedOptions) (r : Request) (capture out : DeviceEnd) (written : WrittenPart)
+    (outcome : Result Summary AmendError) → IsTaken r capture out (Ok written) → IsHeld o
     → (outcome ≡ Err no_part_file) ⊎ IsOutcomeOnFile o outcome → IsOutcomeOfRequest o r outcome
-carried_out o r capture out done outcome taken held (inl none) = inl (no_part_file, inr (inl (inl refl)), none)
-carried_out o r capture out done outcome taken held (inr on_file) =
-    inr (inr (capture, out, done, taken, inr (inr (held, on_file))))
+carried_out o r capture out written outcome taken held (inl none) = inl (no_part_file, inr (inl (inl refl)), none)
+carried_out o r capture out written outcome taken held (inr on_file) =
+    inr (inr (capture, out, written, taken, inr (inr (held, on_file))))

@@ -7,7 +7,7 @@ returns-in_err-check_first g c = λ o script output.
     ends_with o c.args.request c.from_residual-in_err-check_first.result c.in_err-check_first.field-0.0
     c.from_residual-in_err-check_first.ensures.1 (refused_first o _ _ c.in_err-check_first.ensures)
 
-pub returns-in_err-take_part : goal.returns-in_err-take_part
-returns-in_err-take_part g c = λ o script output.
-    ends_with o c.args.request c.from_residual-in_err-take_part.result c.in_err-take_part.field-0.0
-    c.from_residual-in_err-take_part.ensures.1 (refused o _ _ _ _ c.in_err-take_part.ensures.taken)
+pub returns-in_err-written : goal.returns-in_err-written
+returns-in_err-written g c = λ o script output.
+    ends_with o c.args.request c.from_residual-in_err-written.result c.in_err-written.field-0.0
+    c.from_residual-in_err-written.ensures.1 (refused o _ _ _ _ c.in_err-written.ensures.taken)
