@@ -71,9 +71,6 @@ OTHER_FILES = [
      "write four-state VCD ($dumpvars in place of $dumpports), or evcd2vcd FILE > NEW.vcd (GTKWave)"),
 ]
 
-# A kind of what a comparison does not see: how much, of what, and by which variables.
-Loss = collections.namedtuple("Loss", "count what names")
-
 
 class Trouble(argparse.ArgumentTypeError):
     """Why a tool ends, refuses a word or leaves a capture as it is: a line for its user, the status, and more lines."""
@@ -180,37 +177,27 @@ def program(name="vcdedit"):
 
 def words_of(file):
     """The words of a file, or of a pipe, from where it is read next."""
-    def lists():
-        rest = b""
-        # The longer the word that may go on, the more is read.
-        for chunk in iter(lambda: file.read(max(CHUNK, len(rest))), b""):
-            # With a letter behind it a chunk ends in a word: the one that may go on.
-            *words, rest = (rest + chunk + b".").split()
-            rest = rest[:-1]
-            yield words
-        yield rest.split()
-
-    return itertools.chain.from_iterable(lists())
-
-
-def declarations_in(words):
-    """(command, its words) of each declaration."""
-    for command in words:
-        yield command, list(itertools.takewhile(b"$end".__ne__, words))
-        if command == b"$enddefinitions":
-            break
+    rest = b""
+    # The longer the word that may go on, the more is read.
+    while chunk := file.read(max(CHUNK, len(rest))):
+        # With a letter behind it a chunk ends in a word: the one that may go on.
+        *words, rest = (rest + chunk + b".").split()
+        rest = rest[:-1]
+        yield from words
+    yield from rest.split()
 
 
 def variables_in(words, listing):
     """The declared variables: the code of each signal, and what the others are."""
     kept, scopes, codes, skipped = collections.deque(listing.signals), [], [], []
-    for command, inner in declarations_in(words):
+    for command in itertools.takewhile(b"$enddefinitions".__ne__, words):
+        inner = list(itertools.takewhile(b"$end".__ne__, words))
         if command == b"$scope":
             scopes.append(b"".join(inner[1:]))
         elif command == b"$upscope":
             del scopes[-1:]
         elif command == b"$var":
-            kind, width, code, *own = [*inner, b"", b"", b""]
+            kind, width, code, *own = inner
             name = b".".join([*scopes, b"".join(own)])
             if kept and (width.lstrip(b"0"), kind, name) == (b"%d" % kept[0].width, *kept[0][1:]):
                 kept.popleft()
@@ -223,72 +210,60 @@ def variables_in(words, listing):
 
 
 def changes_in(words):
-    """(tick, code, first word) of each change behind the declarations, and of each comment without a code."""
+    """(tick, code, value) of each change: the value in as few letters as the program writes it, or none of a real number
+    or a string. A comment is a change without a code. Declarations are passed over."""
     tick = 0
     for word in words:
         first = word[0]
         if first in SCALARS:
-            yield tick, word[1:], word
+            yield tick, word[1:], SCALARS[first]
         elif first == STAMP:
             tick = int(word[1:])
-        elif first in VECTORS or first in REALS:
-            yield tick, next(words, None), word
+        elif first in VECTORS:
+            value = word[1:].translate(LETTERS)
+            yield tick, next(words, None), value[SPARE(value).end() :]
+        elif first in REALS:
+            yield tick, next(words, None), None
         elif first == DOLLAR and word not in DUMP_WORDS:
             if word == b"$comment":
-                yield tick, None, word
+                yield tick, None, None
             collections.deque(itertools.takewhile(b"$end".__ne__, words), 0)
 
 
 def losses_of(words, names):
-    """What vcdedit leaves out behind the declarations: comments, and of the variables with these names by their codes
-    real and string changes, and changes that a later one of the same tick replaces. The program tells faults."""
+    """(what, lines about variables) of what vcdedit leaves out behind the declarations: comments, and of the variables
+    with these names by their codes real and string changes, and changes that a later one of the same tick replaces."""
     reals, replaced, comments, seen = collections.Counter(), collections.Counter(), 0, {}
-    for tick, code, word in changes_in(words):
+    for tick, code, value in changes_in(words):
         if code is None:
             comments += 1
-        elif code in names and word[0] in REALS:
+        elif code in names and value is None:
             reals[code] += 1
         elif code in names:
-            before, seen[code] = seen.get(code), (tick, value_of(word))
+            before, seen[code] = seen.get(code), (tick, value)
             if before and before[0] == tick and before != seen[code]:
                 replaced[code] += 1
-
-    def loss_of(counts, what):
-        told = ["%s: %s" % (names[code], counted(count, what)) for code, count in counts.items()]
-        return Loss(sum(counts.values()), what, told)
-
-    return [loss_of(reals, "real or string change%s"), loss_of(replaced, "change%s replaced within a tick"),
-            Loss(comments, "comment%s among the changes", [])]
+    for counts, what in ((reals, "real or string change%s"), (replaced, "change%s replaced within a tick")):
+        if counts:
+            told = ["%s: %s" % (names[code], counted(count, what)) for code, count in counts.items()]
+            yield counted(sum(counts.values()), what), told
+    if comments:
+        yield counted(comments, "comment%s among the changes"), []
 
 
 def ticks_in(words, numbers):
     """(tick, {number: value}) of what changes at each tick with a change, by the numbers of each code. At the first all
     have a value."""
     tick, found, values = 0, dict.fromkeys(numbers, b"x"), {}
-    for after, code, word in itertools.chain(changes_in(words), [(None, None, b"")]):
+    for after, code, value in itertools.chain(changes_in(words), [(None, None, None)]):
         if after != tick and found:
             yield tick, {number: value for code, value in found.items() if values.get(code) != value
                          for number in numbers[code]}
             values.update(found)
             found = {}
         tick = after
-        if code in numbers and word[0] not in REALS:
-            found[code] = value_of(word)
-
-
-def value_of(word):
-    """The value that the first word of a change has, in as few letters as the program writes it."""
-    if word[0] in SCALARS:
-        return SCALARS[word[0]]
-    value = word[1:].translate(LETTERS)
-    return value[SPARE(value).end() :]
-
-
-def told_losses(losses):
-    """Losses in a phrase, and the first of the rows that name variables."""
-    *phrases, last = [counted(loss.count, loss.what) for loss in losses]
-    names = [name for loss in losses for name in loss.names]
-    return (", ".join(phrases) + " and " if phrases else "") + last, shortened(names)
+        if value and code in numbers:
+            found[code] = value
 
 
 def unit_ticks(unit, timescale):
@@ -320,9 +295,8 @@ def ticks_of(time, timescale):
 
 def matcher(pattern):
     """A test of full names by a pattern: `*` stands for any bytes, `?` for any one, and all else for itself."""
-    parts = {b"*": b".*", b"?": b"."}
-    return re.compile(b"".join(parts.get(one, re.escape(one)) for one in re.findall(rb"(?s).", os.fsencode(pattern))),
-                      re.DOTALL).fullmatch
+    letters = re.escape(os.fsencode(pattern)).replace(rb"\*", b".*").replace(rb"\?", b".")
+    return re.compile(letters, re.DOTALL).fullmatch
 
 
 def what_else(prefix):

@@ -4,18 +4,16 @@ import collections
 import functools
 import heapq
 import itertools
+import operator
 import pathlib
 import re
 import subprocess
-import threading
 
 import vcd_files
 from vcd_files import program, shortened, shown
 
 # Letters of a line that are shown, near names that are, and how often names are compared for a report to find those.
 LONGEST, NAMES_SHOWN, COMPARED = 100, 3, 1 << 17
-# Reports on several captures seek them one after another.
-SEEKING = threading.Lock()
 
 # A fault or a refusal, what it means, what to do, and what the line of a fault is that of.
 Message = collections.namedtuple("Message", "kind name means remedy line")
@@ -48,10 +46,15 @@ def short(text):
 
 def told_end(errors, file):
     """Lines about a run on a file that did not end well, by its standard error. The reason may stand behind others."""
-    lines = errors.splitlines() or ["vcdedit does not say why it ended"]
-    reason = re.sub("^vcdedit(-amend)?: ", "", next((line for line in lines if line.startswith("error: ")), lines[-1]))
+    lines = [re.sub("^vcdedit(-amend)?: ", "", line) for line in errors.splitlines()]
+    *before, last = lines or ["vcdedit does not say why it ended"]
+    reason = next((line for line in lines if line.startswith("error: ")), last)
     fault = re.fullmatch(r"capture line ([0-9]+): (\w+)", reason)
-    return told_fault(file, int(fault[1]), fault[2]) if fault else ENDINGS.get(reason, [reason])
+    if fault:
+        return told_fault(file, int(fault[1]), fault[2])
+    if reason == "capture: read fault":
+        return [reason, *before]
+    return ENDINGS.get(reason, [reason])
 
 
 def told_fault(file, number, name):
@@ -94,9 +97,8 @@ def told_refusals(refused, lines, listing, is_over=lambda: False):
     names, sought = [signal.name for signal in listing.signals], {}
 
     def near(word):
-        with SEEKING:
-            if word not in sought and len(sought) * len(names) < COMPARED and not is_over():
-                sought[word] = nearest(shown(word), map(shown, names))
+        if word not in sought and len(sought) * len(names) < COMPARED and not is_over():
+            sought[word] = nearest(shown(word), map(shown, names))
         return sought.get(word)
 
     return shortened(refused, lambda one: told_refusal(*one, lines[one[0] - 1], names, listing.timescale, near))
@@ -130,35 +132,29 @@ def told_number(word, timescale):
 
 def told_names(words, names, near):
     """Lines about the names that a capture has not, or else about those that it had before the lines above."""
-    unknown = [word for word in words if name_of(word, names) not in names]
-    if unknown:
-        return [line for word in unknown for line in told_name(word, names, near)]
-    return ["%s is in the capture: was it renamed or removed by a line above?" % shown(word) for word in words]
-
-
-def told_name(word, names, near):
-    """A line about a name that a capture has not, if there is more to say."""
-    if re.fullmatch(rb"@[0-9]+", word):
-        return ["%s: the capture has %d signals, the first is @0" % (shown(word), len(names))]
-    found = near(word)
-    return ["%s: near names are %s" % (shown(word), ", ".join(found))] if found else []
+    told, unknown = [], [word for word in words if name_of(word, names) not in names]
+    for word in unknown:
+        if re.fullmatch(rb"@[0-9]+", word):
+            told.append("%s: the capture has %d signals, the first is @0" % (shown(word), len(names)))
+        elif found := near(word):
+            told.append("%s: near names are %s" % (shown(word), ", ".join(found)))
+    if not unknown:
+        told = ["%s is in the capture: was it renamed or removed by a line above?" % shown(word) for word in words]
+    return told
 
 
 def nearest(name, names):
     """The names that are most like a name in the last part, then in the scopes. One of them is like it."""
-    (scopes, last), like, found = parts_of(name), functools.lru_cache(None)(likeness), []
-    for other in names:
-        scopes_there, last_there = parts_of(other)
-        both = like(last, last_there), like(scopes, scopes_there)
-        if max(both) > 0.6:
-            found.append((both, other))
-    return [other for _, other in heapq.nlargest(NAMES_SHOWN, found, key=lambda one: one[0])]
+    parts, like = parts_of(name), functools.lru_cache(None)(likeness)
+    rated = ((tuple(map(like, parts, parts_of(other))), other) for other in names)
+    near = heapq.nlargest(NAMES_SHOWN, (one for one in rated if max(one[0]) > 0.6), key=operator.itemgetter(0))
+    return [other for _, other in near]
 
 
 def parts_of(name):
-    """The scopes of a name, or of a pattern, and the last part without its range, in lower case."""
+    """The last part of a name, or of a pattern, without its range, and the scopes, in lower case."""
     scopes, _, last = name.lower().strip("*?").rpartition(".")
-    return scopes, last.partition("[")[0]
+    return last.partition("[")[0], scopes
 
 
 def likeness(one, other):
@@ -171,7 +167,4 @@ def likeness(one, other):
 
 def alike(one, other):
     """How many letters two texts have in common at the front."""
-    for count, (letter, letter_there) in enumerate(zip(one, other)):
-        if letter != letter_there:
-            return count
-    return min(len(one), len(other))
+    return sum(itertools.takewhile(bool, map(operator.eq, one, other)))

@@ -1,5 +1,6 @@
 """Runs of the program: what it lists of a capture, and its replies to the lines of a script."""
 
+import bisect
 import collections
 import itertools
 import os
@@ -17,13 +18,12 @@ INTERRUPTIONS = [signal.Signals["SIG" + name] for name in "INT TERM HUP QUIT ALR
 EDITS = b"rename remove invert shift cut deglitch force derive".split()
 # Commands with one reply. Other lines have another number; the line that is refused behind each ends its replies.
 ONE_REPLY, LAST = EDITS + b"undo redo depth value".split(), b"\n-"
-# A remark of vcdedit-amend on a line, by its number, on standard error.
-REMARK = re.compile(r"^line (\d+): (.*)\n", flags=re.MULTILINE)
+# Remarks of vcdedit-amend on a line, by its number, and on its output, on standard error.
+REMARK, OUTPUT_REMARK = re.compile(r"^line (\d+): (.*)\n", re.M), re.compile("^output: .*", re.M)
+# Lines there that are no error: remarks, what vcdedit-amend says of memory while it reads, and first-look of its build.
+NO_ERROR = re.compile(r"^(?:line \d+|output|vcdedit-amend: memory may run out|first-look): .*\n", re.M)
 # What a run begins with so that it ends with the tool, even if that is killed.
 GUARD = ["setpriv", "--pdeathsig", "TERM"] if shutil.which("setpriv") else []
-
-# What is said of memory while vcdedit-amend reads, and by first-look of its build; the run goes on.
-NOTES = re.compile("^(?:vcdedit-amend: memory may run out|first-look): .*\n", re.M)
 
 # What `list` says: the timescale or `none`, the last tick, how many variables are skipped, and the signals.
 Listing = collections.namedtuple("Listing", "timescale end skipped signals")
@@ -53,6 +53,8 @@ class Run:
         """`words` are more options. `written` has the descriptor of a file for its output, if there is one. The program
         opens the capture by a path, so that it can read it more than once. If `lines` are None, it has no script."""
         self.source, self.lines, self.program = source, lines, program(name)
+        # The numbers of the lines in the script below.
+        self.numbers = list(itertools.accumulate((1 if has_one_reply(line) else 2 for line in lines or ()), initial=2))
         with open(os.memfd_create("script"), "wb") as script:
             script.write(b"list\n" + b"".join(line + LAST * (not has_one_reply(line)) + b"\n" for line in lines or ()))
             script.flush()
@@ -83,19 +85,11 @@ class Run:
 
     def replies(self):
         """(place of a line, reply) of each reply to the lines."""
-        number = 1
         for place, line in enumerate(self.lines):
-            is_only = has_one_reply(line)
-            number += 1 if is_only else 2
-            for reply in self.child.stdout:
-                if reply == b"line %d: refused: UnknownCommand\n" % number and not is_only:
-                    break
+            last = b"line %d: refused: UnknownCommand\n" % (self.numbers[place] + 1)
+            replies = itertools.takewhile(last.__ne__, self.child.stdout)
+            for reply in itertools.islice(replies, 1 if has_one_reply(line) else None):
                 yield place, reply[:-1]
-                if is_only:
-                    break
-            else:
-                self.want_end()
-                raise Trouble("%s left lines of the script without a reply" % self.program)
         self.want_end()
 
     def told(self):
@@ -105,17 +99,13 @@ class Run:
 
     def remarks(self):
         """(place of a line, remark) of each remark that the program has made on the lines."""
-        places, number = {}, 2
-        for place, line in enumerate(self.lines):
-            places[number] = place
-            number += 1 if has_one_reply(line) else 2
         for number, remark in REMARK.findall(self.told()):
-            yield places[int(number)], remark
+            yield bisect.bisect(self.numbers, int(number)) - 1, remark
 
     def want_end(self):
         """Waits for the run's end, and raises what went wrong. A line that is refused is nothing wrong."""
         status = self.child.wait()
-        errors = NOTES.sub("", REMARK.sub("", self.told()))
+        errors = NO_ERROR.sub("", self.told())
         if -status in INTERRUPTIONS:
             raise Trouble("interrupted", status=128 - status)
         if status == -signal.SIGXFSZ:

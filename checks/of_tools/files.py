@@ -1,14 +1,12 @@
 """What the tools share: how they start and end, what is left out, times, names and files that are no plain VCD."""
 
-import glob
+import io
 import itertools
 import os
 import pty
 import resource
 import signal
 import subprocess
-import sys
-import tempfile
 import time
 import unittest.mock
 
@@ -17,7 +15,6 @@ import vcd_messages
 import vcd_runs
 from common import TOP, amend_of, run, store, store_program, toggling
 
-CAPTURES = ["examples/*/capture.vcd", "cases/captures/*.vcd", "cases/*/*/capture.vcd"]
 # A text, a timescale, and the tick, or None where it is refused.
 TIMES = [
     ("9223372036854775807", "none", 2**63 - 1), ("92233720368547758070", "none", None), ("1us", "none", None),
@@ -36,24 +33,19 @@ MATCHES = [
     ("tb.q", b"tb.q[7:0]", False), ("tb.?", b"tb.\xff", True), ("tb.q?", b"tb.q", False), ("TB.*", b"tb.q", False),
 ]
 DECLARED = b"$var wire 1 ! a $end $enddefinitions $end #0 1! #5\n"
-# What follows declarations of the kept `!` and `"` and of the skipped `#`, and how often each kind of loss is in it.
+# Changes of `!` and `"`, and how often each kind of what is left out is in them.
 LOST = [
     (b'0! b1 " #5 0! #6 1!', {}),
     (b"0! 1! 0! #5 x! #5 z! #05 0! #6 1! #0 0!", {"change": 4}),
     (b'b1 " b10 " b10 " #1 b1 " b01 "', {"change": 1}),
     (b'0! L! l! #1 H! h! 1! x! u! - ! #2 bx " bXX " b00x " B0x " bz1 " bzz1 "', {"change": 3}),
-    (b'r1.5 ! sx ! r2 " r3 ( r2 # S #', {"real": 4}),
+    (b'r1.5 ! sx ! r2 " r3 ( r2 # S #', {"real": 3}),
     (b"$comment 0! r1 ! $end $dumpvars 0! $end $attrbegin r1 ! $end $comment $end", {"comment": 2}),
     (b"$comment\n" + b"x" * 3 * vcd_files.CHUNK + b" y $end 0! 1!", {"change": 1, "comment": 1}),
     *((b" " * more + b"0! 1!" + b"\n#1 0!\n#2 1! 0!\n" * 9000, {"change": 9001}) for more in range(16)),
     (b"0! 1! $comment", {"change": 1, "comment": 1}),
     (b"0! $dumpoff 1! $end 0!", {"change": 2}),
 ]
-NAMED = b"""$scope module t $end $var real 1 $ a $end $var wire 1 ! a $end
-$scope begin u v $end $var reg 8 " b [7:0] $end $upscope $end
-$var real 1 # c $end $comment $var wire 1 $ no $end $var wire 0 % d $end $var wire 01025 & e f $end $upscope $end
-$var event 1 ' g $end $scope module t $end $var wire 1 ( a $end $enddefinitions $end\n"""
-SKIPPED = ["real 1 t.a", "real 1 t.c", "wire 0 t.d", "wire 01025 t.ef", "event 1 g"]
 # A name, names, and which of them are near.
 NEAR = [
     ("tb.dut.data", ["tb.data[7:0]", "top.dut.rx", "tb.dut.dat", "x.y", "tb.dut.DATA[3:0]"],
@@ -64,6 +56,13 @@ NEAR = [
     ("rx", ["a.b", "tb.uart_rx_i"], ["tb.uart_rx_i"]), ("q", ["a.b"], []),
 ]
 TOOLS = ["vcdedit-apply", "vcdedit-compare", "vcdedit-table", "vcdedit-view"]
+# What a module does while a tool starts, the status, and the end of what is told.
+STARTS = [
+    ("import os, signal; os.kill(os.getpid(), signal.SIGINT)", -signal.SIGINT, ""),
+    ("raise MemoryError", 5, "MemoryError\n"),
+    ("raise ImportError('failed to map segment')", 5, "segment\n"),
+    ("raise ValueError('seen')", 4, "ValueError: seen\n"),
+]
 LIMITED = '#!/bin/sh\nulimit -S -v %s\nexec %s "$@"\n'
 # The first bytes of a file, and a word of what it is said to be.
 OTHERS = [
@@ -84,32 +83,13 @@ def refused(call, *words):
         return None
 
 
-def losses_of(path, listing):
-    """The variables that are left out, and what is besides."""
-    with open(path, "rb") as file:
-        words = vcd_files.words_of(file)
-        codes, skipped = vcd_files.variables_in(words, listing)
-        return skipped, vcd_files.losses_of(words, dict(zip(codes, codes)))
-
-
-def listed(program, path):
-    """The listing of a capture, or None where the program refuses it."""
-    status, lines, _ = run([program, "-i", path], text=False)
-    return vcd_runs.listing_of(lines.splitlines()) if status == 0 else None
-
-
-def starts_and_ends(folder, tool):
-    """A tool that is interrupted or lacks memory while it starts. A module of Python does that here."""
-    path, environment = os.path.join(TOP, "tools", tool), {**os.environ, "PYTHONPATH": folder}
-    for text, status, told in (
-        ("import os, signal; os.kill(os.getpid(), signal.SIGINT)", -signal.SIGINT, ""),
-        ("raise MemoryError", 5, "MemoryError\n"),
-        ("raise ImportError('failed to map segment')", 5, "segment\n"),
-        ("raise ValueError('seen')", 4, "ValueError: seen\n"),
-    ):
+def starts(folder):
+    """Each tool, where it is interrupted or lacks memory while it starts. A module of Python does that here."""
+    environment = {**os.environ, "PYTHONPATH": folder}
+    default = lambda: signal.signal(signal.SIGINT, signal.SIG_DFL)
+    for tool, (text, status, told) in itertools.product(TOOLS, STARTS):
         store(folder, "fractions.py", text=text)
-        default = lambda: signal.signal(signal.SIGINT, signal.SIG_DFL)
-        found = run([sys.executable, path, "--version"], env=environment, preexec_fn=default)
+        found = run([os.path.join(TOP, "tools", tool), "--version"], env=environment, preexec_fn=default)
         right = found[0] == status and found[2].endswith(told) and ("Traceback" in found[2]) == bool(told)
         yield "%s, where a start ends with %s: %s" % (tool, text, found), right
     os.remove(os.path.join(folder, "fractions.py"))
@@ -144,36 +124,32 @@ def on_a_terminal(program, folder):
     for place, letter in enumerate("ab"):
         store(folder, letter, text=b"$var wire 1 ! %s $end $enddefinitions $end #0 %d! #5" % (name, place))
     store(folder, "script", text="list\n")
-    tools = (["vcdedit-compare", "a", "b"], b""), (["vcdedit-apply", "script", "a"], b"a:1: @0 1 wire ")
-    for locale, (words, before) in itertools.product(("C.UTF-8", "C"), tools):
-        words = [os.path.join(TOP, "tools", words[0]), *words[1:]]
-        environment = {"LC_ALL": locale, "PYTHONUTF8": "0", "PYTHONCOERCECLOCALE": "0"}
-        environment.update(VCDEDIT=program, VCDEDIT_AMEND=amend_of(program))
-        how = {"cwd": folder, "env": {**os.environ, **environment}}
-        yield "names in a file, %s" % locale, before + name in run(words, text=False, **how)[1]
+    environment = {**os.environ, "VCDEDIT_AMEND": amend_of(program), "PYTHONUTF8": "0", "PYTHONCOERCECLOCALE": "0"}
+    tools = ["vcdedit-compare", "a", "b"], ["vcdedit-apply", "script", "a"]
+    for locale, (tool, *words) in itertools.product(("C.UTF-8", "C"), tools):
+        words = [os.path.join(TOP, "tools", tool), *words]
+        how = {"cwd": folder, "env": {**environment, "LC_ALL": locale}}
+        yield "names in a file, %s" % locale, name in run(words, text=False, **how)[1]
         terminal, side = pty.openpty()
         subprocess.run(words, stdout=side, stderr=side, **how)
-        os.close(side)
         found = os.read(terminal, 10000)
-        os.close(terminal)
-        right = before + rb"\x1b[2K\xc2\x9b1A" in found and rb"\xff" in found
-        yield "names on a terminal, %s: %s" % (locale, found), right and found.count(b"\x1b") == 0
+        right = rb"\x1b[2K\xc2\x9b1A" in found and rb"\xff" in found and b"\x1b" not in found
+        yield "names on a terminal, %s: %s" % (locale, found), right
 
 
 def near_names():
     for name, names, wanted in NEAR:
         yield "near %s" % name, vcd_messages.nearest(name, names) == wanted
-    names, began = ["top.u%d.stage%d_q[7:0]" % (place % 50, place) for place in range(65536)], time.process_time()
-    found = vcd_messages.nearest("top.u7.stge60007_q", names)
-    yield "the near of many: %s" % found, found[0] == names[60007] and time.process_time() - began < 1
-    listing = vcd_runs.Listing("none", 9, 0, [vcd_runs.Signal(8, b"wire", os.fsencode(name)) for name in names])
-    lines = [b"derive a and " + b" ".join(b"top.u7.stge%d%d_q" % both for both in [(k, 1), (k, 2), (7, 7), (8, 8)])
-             for k in range(10)]
+    names = [b"top.u%d.stage%d_q[7:0]" % (place % 50, place) for place in range(65536)]
+    listing = vcd_runs.Listing("none", 9, 0, [vcd_runs.Signal(8, b"wire", name) for name in names])
+    lines = [b"derive a and top.u7.stge60007_q top.u7.stge%d_q" % number for number in range(20)]
+    refused = [(number, "NoSuchName") for number in range(1, 21)]
     for most, is_over in ((2, False), (0, True)):
-        began, refused = time.process_time(), [(number, "NoSuchName") for number in range(1, 11)]
-        told = vcd_messages.told_refusals(refused, lines, listing, lambda: is_over)
-        near, seconds = len({line for line in told if "near names" in line}), time.process_time() - began
-        yield "the near of 22 names: %d in %.1f seconds" % (near, seconds), near == most and seconds < 1.5
+        began, told = time.process_time(), vcd_messages.told_refusals(refused, lines, listing, lambda: is_over)
+        near, seconds = {line for line in told if "near names" in line}, time.process_time() - began
+        is_found = any("near names are top.u7.stage60007_q[7:0]" in line for line in near)
+        right = (len(near), is_found) == (most, not is_over) and seconds < 4
+        yield "near names in %.1f seconds: %s" % (seconds, near), right
 
 
 def not_built(folder):
@@ -218,33 +194,17 @@ def dialect(amend, folder):
 
 
 def check(program, folder):
-    for tool in TOOLS:
-        yield from starts_and_ends(folder, tool)
+    yield from starts(folder)
     yield from without_memory(program, folder)
     yield from on_a_terminal(program, folder)
     yield from near_names()
-    fails = unittest.mock.patch("shutil.copyfileobj", side_effect=OSError(28, "full"))
-    with fails, unittest.TestCase().assertRaises(vcd_files.Trouble) as ended:
-        vcd_files.opened("/dev/null")
-    told, wanted = str(ended.exception), "/dev/null or its copy in %s: full" % tempfile.gettempdir()
-    yield "a copy that fails: %s" % told, told == wanted
     yield from not_built(folder)
     yield from long_ones(program, folder)
-    paths = {path for pattern in CAPTURES for path in glob.glob(os.path.join(TOP, pattern))}
-    yield "captures to read", len(paths) > 50
-    for path in sorted(paths):
-        listing = listed(program, path)
-        is_named = listing is None or refused(losses_of, path, listing) is not None
-        yield "what is left out of " + os.path.relpath(path, TOP), is_named
-    path = store(folder, "named", text=NAMED)
-    listing = listed(program, path)
-    yield "names of what is left out", losses_of(path, listing)[0] == SKIPPED
-    yield "another count than the program's", refused(losses_of, path, listing._replace(skipped=3)) is None
-    for text, wanted in LOST:
-        rows = losses_of(store(folder, "lost", text=NAMED + text), listing)[1]
-        found = {row.what.split("%")[0].split()[0]: row.count for row in rows if row.count}
-        yield "lost of %s: %s" % (text[:40], found), found == wanted
     yield from dialect(amend_of(program), folder)
+    for text, wanted in LOST:
+        losses = vcd_files.losses_of(vcd_files.words_of(io.BytesIO(text)), {b"!": "a", b'"': "b"})
+        found = {kind.rstrip("s"): int(count) for count, kind, *_ in (what.split(" ") for what, _ in losses)}
+        yield "lost of %s: %s" % (text[:40], found), found == wanted
     for text, what in OTHERS:
         found = vcd_files.what_else(text[: vcd_files.CHUNK])
         yield "a file that is %s" % what, found is None if what is None else found is not None and what in found[0]

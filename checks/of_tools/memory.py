@@ -7,7 +7,6 @@ import sys
 
 from common import TOP, amend_of, module_of, run, store, text_at
 
-SIZE = 2000000
 BYTES_OF_CHANGE = 272
 BYTES_WHILE_READ = 32
 BYTES_OF_SIGNAL = 700
@@ -46,7 +45,7 @@ def table(program, folder, module):
     rows = re.findall(ROW, text_at("docs/COOKBOOK.md"), flags=re.M)
     yield "rows of the table", len(rows) == len(SHAPES) and all(word in row[0] for word, row in zip(SHAPES, rows))
     for (name, text, times), shape in zip(rows, SHAPES.values()):
-        path = module.make(folder, shape, SIZE / 1e6)
+        path = module.make(folder, shape, 2)
         size, changes, memory = os.path.getsize(path), changes_in(path), peak(program, path, "--script", "/dev/null")
         yield "%s: %.1f bytes of text a change" % (name, size / changes), is_near(size / changes, float(text))
         yield "%s: %.1f times the file" % (name, memory / size), is_near(memory / size, float(times))
@@ -61,12 +60,10 @@ def table(program, folder, module):
 
 def signals(program, folder, module):
     """What a signal takes without changes, and with a code that all share."""
-    for shared in (False, True):
-        count = 60000
-        codes = ["!" if shared else module.code(k) for k in range(count)]
+    for codes in (["!"] * 60000, list(map(module.code, range(60000)))):
         names = "".join(module.variable("wire", 1, code, "signal%d" % k) for k, code in enumerate(codes))
         path = store(folder, "signals", text=names + "$enddefinitions $end\n#0\n#5\n")
-        each = peak(program, path, "--script", "/dev/null") / count
+        each = peak(program, path, "--script", "/dev/null") / len(codes)
         yield "%.0f bytes a signal" % each, is_near(each, BYTES_OF_SIGNAL, 0.2)
 
 

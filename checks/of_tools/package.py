@@ -3,7 +3,7 @@
 import os
 import re
 
-from common import TOP, amend_of, lay_out, module_of, run, store, text_at, tools_missing
+from common import TOP, lay_out, module_of, run, store, text_at, tools_missing
 
 # Half a second is not enough on a busy machine, so that a check of names waits longer.
 COMPLETE = """source <(sed 's/timeout 0.5/timeout 20/' "$1"); shift
@@ -15,19 +15,18 @@ NAMES = [
     (["--keep", ""], ["tb.clk", r"tb.q\[7:0\]", r"tb.ab\[3:0\]"]), (["--map", "tb.q"], [r"tb.q\[7:0\]"]),
     (["--keep", "tb.q[7:"], [r"0\]"]), (["--keep", "clk"], [""]), (["-i", "named"], [""]),
 ]
-# What is run after installing, in another folder: words, status and what is shown. Each calls the vcdedit next to it.
+# What is run after installing, in another folder, the status and what is shown. Each calls the program next to it.
 RUN = [
-    (["vcdedit-compare", "/dev/null", "/dev/null"], 2, "line 1: the file is empty"),
-    (["vcdedit-apply", "/dev/null", "/etc/passwd"], 3, "line 1: .*: UnexpectedWord"),
-    (["vcdedit-apply", "--help"], 0, "Carries a script"), (["vcdedit-amend", "/dev/null"], 4, "NotAFile"),
-    (["vcdedit-amend", "/dev/null", "--to", "1"], 3, "capture line 1: Truncated"),
-    (["vcdedit-table", "/dev/null", "list"], 3, "line 1: the file is empty"),
-    (["vcdedit-view", "/dev/null", "-o", "none.vcd"], 3, "line 1: the file is empty"),
+    ("vcdedit-amend /dev/null", 4, "NotAFile"), ("vcdedit-table /dev/null list", 3, "line 1: the file is empty"),
+    ("vcdedit-compare /dev/null /dev/null", 2, "line 1: the file is empty"),
+    ("vcdedit-view /dev/null -o none.vcd", 3, "line 1: the file is empty"),
+    ("vcdedit-apply /dev/null /etc/passwd", 3, "line 1: .*: UnexpectedWord"),
 ]
 COMMANDS = ["vcdedit", "vcdedit-amend", "vcdedit-apply", "vcdedit-compare", "vcdedit-table", "vcdedit-view"]
-# What is installed of each command, and of all.
+# What is installed: files of each command, and documents.
 FILES = ["bin/%s", "man/man1/%s.1", "bash-completion/completions/%s", "fish/vendor_completions.d/%s.fish"]
 DOCUMENTS = ["CHANGELOG.md", "COOKBOOK.md", "SCRIPT.md", "FORMATS.md", "messages.txt", "_vcdedit"]
+INSTALLED = [*DOCUMENTS, *(file % command for command in COMMANDS for file in FILES)]
 
 
 def files_in(folder):
@@ -35,36 +34,32 @@ def files_in(folder):
     return sorted(os.path.join(place, name) for place, folders, names in os.walk(folder) for name in folders + names)
 
 
+def are_whole(paths):
+    return all(any(path.endswith("/" + end) for path in paths) for end in INSTALLED)
+
+
 def installs(program, folder):
-    os.makedirs(folder)
+    os.makedirs(os.path.join(folder, "root", "bin"))
     lay_out(program, folder)
-    status, shown, errors = run(["make"], cwd=folder)
+    store(folder, "named.vcd", text=NAMED)
+    status, shown, _ = run(["make"], cwd=folder)
     is_told = all("make " + target in shown for target in ("install", "uninstall", "deb"))
     yield "make says what else there is", status == 0 and is_told
-    os.makedirs(os.path.join(folder, "root", "bin"))
-    for name, words in (
-        ("a relative PREFIX", ["PREFIX=here it is"]),
-        ("a DESTDIR that has folders", ["PREFIX=/", "DESTDIR=%s/root" % folder]),
-    ):
+    for words in (["PREFIX=here it is"], ["PREFIX=/", "DESTDIR=%s/root" % folder]):
         before = files_in(folder)
-        made = run(["make", "install", *words], cwd=folder)
+        status = run(["make", "install", *words], cwd=folder)[0]
         added = [path for path in files_in(folder) if path not in before]
-        launcher = [path for path in added if path.endswith("/bin/vcdedit")]
-        yield name + ": install", made[0] == 0 and len(launcher) == 1
-        if name == "a relative PREFIX":
-            yield from run_from_anywhere(os.path.dirname(launcher[0]))
-        wanted = DOCUMENTS + [file % command for command in COMMANDS for file in FILES]
-        yield name + ": all is installed", all(any(path.endswith("/" + end) for path in added) for end in wanted)
-        if name != "a relative PREFIX":
-            book, = [path for path in added if path.endswith("/COOKBOOK.md")]
-            yield from documents_stand_alone(os.path.dirname(book))
-            run(["make", "install", *words], cwd=folder)
+        yield "install %s" % words, status == 0 and are_whole(added)
+        if words == ["PREFIX=here it is"]:
+            yield from run_from_anywhere(os.path.join(folder, "here it is/bin"))
+            yield from explains_tools(os.path.join(folder, "here it is/bin"))
+        yield from documents_stand_alone(next(path for path in added if path.endswith("/share/doc/vcdedit")))
+        run(["make", "install", *words], cwd=folder)
         run(["make", "uninstall", *words], cwd=folder)
-        yield name + ": uninstall", files_in(folder) == before
-    yield from packs(folder, wanted)
+        yield "uninstall %s" % words, files_in(folder) == before
 
 
-def packs(folder, wanted):
+def packs(folder):
     """A package has all that is installed, and wants the C library."""
     absent = tools_missing({"dpkg-shlibdeps": "dpkg-dev"})
     if absent:
@@ -73,8 +68,7 @@ def packs(folder, wanted):
     status, path, errors = run(["make", "-s", "deb", "MAINTAINER=A <a@b.c>"], cwd=folder)
     held = run(["dpkg-deb", "--contents", path.strip()], cwd=folder)[1].splitlines()
     names = [line.split()[-1].removesuffix(".gz") for line in held]
-    is_whole = all(any(name.endswith("/" + end) for name in names) for end in wanted)
-    yield "make deb: %s" % errors, status == 0 and is_whole
+    yield "make deb: %s" % errors, status == 0 and are_whole(names)
     yield "what it wants", run(["dpkg-deb", "--field", path.strip(), "Depends"], cwd=folder)[1].startswith("libc6 ")
 
 
@@ -99,36 +93,31 @@ def run_from_anywhere(folder):
             said = run([os.path.join(folder, command), option], cwd="/")
             yield "%s %s" % (command, option), said == (0, "%s %s" % (command, version), "") and version
     for words, status, wanted in RUN:
-        done = run([os.path.join(folder, words[0]), *words[1:]], cwd="/", input="")
-        yield "%s runs from anywhere" % " ".join(words), done[0] == status and re.search(wanted, done[1] + done[2])
+        done = run(["sh", "-c", '"$0"/' + words, folder], cwd="/", input="")
+        yield "%s runs from anywhere" % words, done[0] == status and re.search(wanted, done[1] + done[2])
 
 
-def explains_tools(program, folder):
+def explains_tools(folder):
     """Each option that a help lists is in the page and completed, and no other is in the page."""
-    os.makedirs(folder)
-    sources = {name: os.path.join(TOP, "tools", name) for name in COMMANDS}
-    sources.update({"vcdedit": program, "vcdedit-amend": amend_of(program)})
-    yield "the commands", [name for name in COMMANDS if not os.access(sources[name], os.X_OK)] == []
+    def completed(name, *words):
+        words = [os.path.join(TOP, "completions/vcdedit.bash"), os.path.join(folder, name), *words]
+        return run(["bash", "--norc", "-c", COMPLETE, "bash", *words])[1].splitlines()
 
-    def completed(*words):
-        script = os.path.join(TOP, "completions/vcdedit.bash")
-        return run(["bash", "--norc", "-c", COMPLETE, "bash", script, *words], cwd=folder)[1].splitlines()
-
-    for name, source in sources.items():
-        os.symlink(source, os.path.join(folder, name))
-        status, shown, _ = run([source, "--help"])
+    for name in COMMANDS:
+        status, shown, _ = run([os.path.join(folder, name), "--help"])
         options = set(re.findall(r"^ +(?:-\w(?: \S+)?, )?--([a-z-]+)", shown, flags=re.M))
         page = text_at("docs/%s.1" % name).replace("\\-", "-").split(".SH OPTIONS")[-1]
         told = set(re.findall(r"^\.[BI]\w* .*?--([a-z-]+)", re.split(r"^\.S[HS]", page, flags=re.M)[0], flags=re.M))
         yield name + ": help", status == 0 and options >= {"help", "version"}
         yield name + ": options of the page", told == options
-        yield name + ": bash completes its options", {word[2:] for word in completed("./" + name, "--")} == options
+        yield name + ": bash completes its options", {word[2:] for word in completed(name, "--")} == options
         yield name + ": zsh knows it", name in text_at("completions/_vcdedit").split("\n")[0].split()
-    store(folder, "named.vcd", text=NAMED)
     for words, wanted in NAMES:
-        yield "bash completes %s" % words, completed("./vcdedit-compare", "named.vcd", *words) == wanted
+        found = completed("vcdedit-compare", os.path.join(folder, "../../named.vcd"), *words)
+        yield "bash completes %s: %s" % (words, found), found == wanted
 
 
 def check(program, folder):
-    yield from installs(program, os.path.join(folder, "tree"))
-    yield from explains_tools(program, os.path.join(folder, "tools"))
+    tree = os.path.join(folder, "tree")
+    yield from installs(program, tree)
+    yield from packs(tree)
