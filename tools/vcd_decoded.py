@@ -16,14 +16,13 @@ RATES = b"1200 2400 4800 9600 19200 31250 38400 57600 115200 230400 460800 92160
 
 # What a line decoded: its number, annotations, remarks on it, and whether it decodes something else behind the lines.
 Decoded = collections.namedtuple("Decoded", "number line decoder annotations remarks is_edited")
-# What lines made of a capture: the lines, the numbers of those that edited, the listings before and after, and what was
-# decoded.
-Outcome = collections.namedtuple("Outcome", "lines edits first last decoded")
+# What lines made of a capture: the numbers of those that edited, the listings before and after, and what was decoded.
+Outcome = collections.namedtuple("Outcome", "edits first last decoded")
 Annotation = collections.namedtuple("Annotation", "first last text")
 
 
 def options_of(parser, words):
-    """The options of a parser, with a capture and lines of a script."""
+    """The options of a parser, with a capture and the lines of a script, as bytes."""
     add = parser.add_argument
     add("capture", metavar="CAPTURE", help="the capture, which stays as it is; - is standard input")
     add("lines", metavar="LINE", nargs="*", default=[], help="lines of a script")
@@ -31,31 +30,39 @@ def options_of(parser, words):
     options = parser.parse_intermixed_args(words)
     if options.script is not None and options.lines:
         parser.error("the lines are those of --script, or words")
+    text = os.fsencode("\n".join(options.lines))
+    options.lines = (text if options.script is None else pathlib.Path(options.script).read_bytes()).split(b"\n")
     return options
 
 
 def outcome_of(tool, options, source):
     """What the lines of the options make of a capture. Remarks on them are told, and a refused line ends the tool. What
     was decoded above an edit is decoded again behind the lines."""
-    text = os.fsencode("\n".join(options.lines))
-    lines = (text if options.script is None else pathlib.Path(options.script).read_bytes()).split(b"\n")
-    edits = [number for number, line in enumerate(lines, 1) if vcd_runs.command_of(line) in CHANGING]
+    lines, commands = options.lines, list(map(vcd_runs.command_of, options.lines))
+    edits = [number for number, command in enumerate(commands, 1) if command in CHANGING]
     again = [line for line in dict.fromkeys(lines[: max(edits, default=0)]) if vcd_runs.command_of(line) in DECODERS]
     first, replies, remarks = answers_of(tool, source, [*lines, b"list", *again])
     want_no_refusal(tool, lines, replies, first)
     decoded, at_end = [], dict(zip(again, replies[len(lines) + 1 :]))
-    for number, (line, said, remarked) in enumerate(zip(lines, replies, remarks), 1):
+    for number, (line, command, said, remarked) in enumerate(zip(lines, commands, replies, remarks), 1):
         for text in remarked + told_rate(line, said, first.timescale):
             vcd_files.tell(tool, "line %d: %s" % (number, text))
-        if vcd_runs.command_of(line) in DECODERS:
-            decoded.append(decoded_of(number, line, said, remarked, at_end.get(line, said)))
-    return Outcome(lines, edits, first, vcd_runs.listing_of(replies[len(lines)]), decoded)
+        if command in DECODERS:
+            annotations, is_edited = list(map(annotation_of, said)), at_end.get(line, said) != said
+            decoded.append(Decoded(number, line, shown(command), annotations, remarked, is_edited))
+    return Outcome(edits, first, vcd_runs.listing_of(replies[len(lines)]), decoded)
 
 
 def answers_of(tool, source, asked):
-    """What a capture holds before some lines, and of each its replies and the remarks on it."""
-    replies, remarks = [[] for _ in asked], [[] for _ in asked]
-    with vcd_runs.Run(source, asked, name=decoding_program(tool)) as run:
+    """What a capture holds before some lines, and of each its replies and the remarks on it. If vcdedit-amend is not
+    there, vcdedit answers, such as ./first-look, and makes no remarks."""
+    name, replies, remarks = "vcdedit-amend", [[] for _ in asked], [[] for _ in asked]
+    try:
+        vcd_files.program(name)
+    except Trouble as trouble:
+        vcd_files.tell(tool, "no remarks on lines: " + trouble.lines[0])
+        name = "vcdedit"
+    with vcd_runs.Run(source, asked, name=name) as run:
         first = run.listing()
         for place, reply in run.replies():
             replies[place].append(reply)
@@ -64,19 +71,9 @@ def answers_of(tool, source, asked):
     return first, replies, remarks
 
 
-def decoding_program(tool):
-    """vcdedit-amend, which makes remarks, or else vcdedit, such as ./first-look where nothing is built yet."""
-    try:
-        vcd_files.program("vcdedit-amend")
-        return "vcdedit-amend"
-    except Trouble as trouble:
-        vcd_files.tell(tool, "no remarks on lines: " + trouble.lines[0])
-        return "vcdedit"
-
-
 def want_no_refusal(tool, lines, replies, listing):
     """Ends if a line is refused, with what that means."""
-    found = [(number, vcd_runs.refusal_of(b"".join(replies[number - 1]))) for number in range(1, len(lines) + 1)]
+    found = [(number, vcd_runs.refusal_of(b"".join(said))) for number, said in enumerate(replies[: len(lines)], 1)]
     told = told_refusals([(number, name) for number, name in found if name], lines, listing)
     if told and lines[1:] and not any(b" " in line for line in lines):
         told.append("quote each line: %s CAPTURE 'uart top.rx 100 8 none 1'" % tool)
@@ -91,12 +88,6 @@ def told_rate(line, replies, timescale):
         return []
     bit = vcd_files.unit_ticks("s", timescale) / int(rate)
     return ["uart: is %s a baud rate? BIT is how many ticks a bit lasts: %s" % (shown(rate), bit)]
-
-
-def decoded_of(number, line, replies, remarks, at_end):
-    """What a line that decodes says, by its replies, and by what it replies behind the lines."""
-    annotations = list(map(annotation_of, replies))
-    return Decoded(number, line, shown(vcd_runs.command_of(line)), annotations, remarks, at_end != replies)
 
 
 def annotation_of(reply):

@@ -18,6 +18,8 @@ BUS = [
     ("S 1111010 0 0 10101010 0 11110000 0 S 1111010 1 0 00000001 1 P",
      ["0x2aa write|0xf0|ack ack ack|repeated-start", "0x2aa read|0x01|ack nack|stop"]),
     ("S 1111010 0 0 1010101x 0 11110000 0 P", ["high-0x2? write|0xf0|ack ack ack|stop"]),
+    ("S 1111010 1 0 0000000x 0 00000001 1 S 1111010 0 0 P",
+     ["high-0x2? read|? 0x01|ack ack nack|repeated-start", "high-0x2? write||ack|stop"]),
     ("S 101000x 0 0 0000000x 0 00000001 x P", ["?|? 0x01|ack ack ?|stop"]),
     ("S 1010000 0 0 10101 P S P", ["0x50 write|partial-6|ack|stop", "|||stop"]),
     ("S 1010000 0 0 00000001 0", ["0x50 write|0x01|ack ack|"]),
@@ -38,16 +40,13 @@ SPI_ROWS = """line  decoder  first  last  first_us  last_us  what       mosi
 """
 SPI_LINES = ["spi c d - - 0 4 msb", "spi c d - - 0 2 msb"]
 REMARK = "spi: MOSI is x or z at 10-20: edges and bits there are lost"
-# A capture, a line, and what is told of it beside the table.
 UART, GLITCHES = (os.path.join(EXAMPLES, name, "capture.vcd") for name in ("sigrok-uart", "glitches"))
-RATE = "line 1: uart: is %s a baud rate? BIT is how many ticks a bit lasts: %s"
+# Words, the status, and a part of what is told, or nothing. Where the status is not 0, there is no table.
 TOLD = [
-    (UART, "uart libsigrok.rx 115200 8 none 1", RATE % ("115200", "78125/9")),
-    (UART, "uart libsigrok.rx 9600 8 none 1", ""),
-    (UART, "value libsigrok.rx 0", "no line decodes: write uart, spi or i2c, as in 'i2c bench.scl bench.sda'"),
-]
-# Words, and the status and a part of what is told. There is no table then.
-REFUSED = [
+    ([UART, "uart libsigrok.rx 115200 8 none 1"], 0,
+     "vcdedit-table: line 1: uart: is 115200 a baud rate? BIT is how many ticks a bit lasts: 78125/9\n"),
+    ([UART, "uart libsigrok.rx 9600 8 none 1"], 0, ""),
+    ([UART, "value libsigrok.rx 0"], 0, "no line decodes: write uart, spi or i2c, as in 'i2c bench.scl bench.sda'"),
     ([GLITCHES, "deglitch bench.rx 3us"], 1, "BadNumber\n    3us: write 3\n"),
     ([GLITCHES, "shift bench.rx 3.5us"], 1, "BadNumber\n    3.5us is between tick 3 and the next: write ticks\n"),
     ([GLITCHES, "force bench.rx 3 5 0x2F"], 1, "BadValueText\n    0x2F: write 101111\n"),
@@ -82,15 +81,15 @@ def check(program, folder):
 
     for text, wanted in BUS:
         rows = json.loads(table("-", "--json", "i2c c d", given=bus(text))[1])
-        found = [transfer_text(row) for row in rows]
-        yield "the bus %s: %s" % (text, found), found == wanted
-        yield "remarks on the bus %s" % text, all((row["remarks"] != "") == ("x" in text) for row in rows)
+        found, is_remarked = [transfer_text(row) for row in rows], [row["remarks"] != "" for row in rows]
+        yield "the bus %s: %s" % (text, rows), (found, is_remarked) == (wanted, ["x" in text] * len(wanted))
     status, shown, errors = table(I2C, "--csv", I2C_LINE)
     csv_rows = [{name: text for name, text in row.items() if text} for row in csv.DictReader(shown.splitlines())]
     rows = json.loads(table(I2C, "--json", I2C_LINE)[1])
     texts = [{name: " ".join(value) if isinstance(value, list) else str(value) for name, value in row.items() if value}
              for row in rows]
-    yield "csv and json have the same: %s" % shown, (status, errors, csv_rows) == (0, "", texts) and len(rows) == 2
+    yield "csv and json have the same: %s" % shown, (status, errors, csv_rows) == (0, "", texts)
+    yield "the last ticks: %s" % rows, [row["last"] for row in rows] == [205, 395]
     store(folder, "script", text="\n".join(["# asks", SPI_LINES[0], "list"]))
     yield "the names of none", table("-", "--script", "script", given="$enddefinitions $end")[0] == 1
     found = table("-", *SPI_LINES, given=SPI)
@@ -98,17 +97,15 @@ def check(program, folder):
     yield "aligned: %s" % (found,), found == (0, SPI_ROWS, told)
     yield "remarks in a file", table("-", "--csv", *SPI_LINES, given=SPI)[1].count("," + REMARK) == 5
     yield "no rows", [table(I2C, *form, "list")[1] for form in ([], ["--json"])] == ["", "[\n]\n"]
-    for capture, line, told in TOLD:
-        found = table(capture, line)
-        yield "told of %s: %s" % (line, found), found[0] == 0 and found[2] == "vcdedit-table: %s\n" % told * bool(told)
     tool = module_of("tools/vcdedit-table")
     for tick, timescale, wanted in TIMES:
         found = tool.microseconds(tick, timescale)
         yield "%d at %s: %s us" % (tick, timescale, found), found == wanted
     store(folder, "c", text="frob\n")
-    for words, status, told in REFUSED:
+    for words, status, told in TOLD:
         found = table(*words)
-        yield "%s: %s" % (words, found), (found[0], found[1]) == (status, "") and told in found[2]
+        right = found[0] == status and (status == 0 or found[1] == "") and told in found[2]
+        yield "%s: %s" % (words, found), right and bool(told) == bool(found[2])
     path = os.pathsep.join([os.path.join(TOP, "tools"), os.environ["PATH"]])
     words = [sys.executable, "-B", "-c", "import test_bus; test_bus.test_register_is_read()"]
     found = run(words, cwd=TOP, env={**environment, "PATH": path, "PYTHONPATH": EXAMPLES})
