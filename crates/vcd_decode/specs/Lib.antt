@@ -15,6 +15,7 @@ pub mod SpiSent
 pub mod BusEvents
 pub mod BusBytes
 pub mod I2c
+pub mod LastBits
 pub mod I2cSent
 pub mod Laws
 pub mod inside

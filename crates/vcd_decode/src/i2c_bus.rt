@@ -5,4 +5,4 @@ mod bytes;
 mod events;
 mod transfer;
 
-pub use bus_walk::i2c;
+pub use bus_walk::{i2c, i2c_bits_after_last_byte, i2c_bits_before_condition};

@@ -17,7 +17,7 @@ mod uart_frames;
 mod uart_setup;
 
 pub use annotation::{Annotation, Direction, Kind, LineData};
-pub use i2c_bus::i2c;
+pub use i2c_bus::{i2c, i2c_bits_after_last_byte, i2c_bits_before_condition};
 pub use laws::{
     i2c_messages_are_apart, i2c_messages_are_found, spi_selections_and_lines_are_apart,
     spi_words_are_found, uart_frames_are_found, unclear_edges_count_for_nothing,

@@ -1,6 +1,6 @@
 //! The setup of an asynchronous serial line.
 
-ghost use Rattle.std.specs.Prelude.{◌≡◌, ◌≤◌, IfOk};
+ghost use Rattle.std.specs.Prelude.{◌≡◌, ◌≤◌, ◌+◌, ◌*◌, IfOk};
 ghost use Rattle.vcd_decode.specs.SetupFaults.{uart_fault};
 ghost use Rattle.vcd_decode.specs.SetupResults.{SetupFaultIs};
 ghost use Rattle.vcd_decode.specs.UartSetup.{uart_setup};
@@ -160,9 +160,18 @@ impl Uart {
     /// The number of ticks from the beginning of a frame to the sample of a bit.
     pub(crate) fn sample_offset(&self, bit: usize) -> u64
         requires { bit ≤ FRAME_BITS }
-        ensures { result ≡ sample_offset self.now bit }
+        ensures ticks { result ≡ sample_offset self.now bit }
+        ensures most { result ≤ (2 * FRAME_BITS + 1) * RATIO_LIMIT }
     {
         (2 * bit as u64 + 1) * self.numerator / (2 * self.denominator)
+    }
+
+    /// The number of ticks of a frame, from its beginning to the sample of its last bit, both
+    /// included.
+    pub fn frame_ticks(&self) -> u64
+        ensures { result ≡ sample_offset self.now (last_bit self.now) + 1 }
+    {
+        self.sample_offset(self.last_bit()) + 1
     }
 
     /// Whether this number of ones among the data bits and the parity bit is wrong.

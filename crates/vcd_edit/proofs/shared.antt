@@ -3,6 +3,7 @@ pub mod EffectLaws
 pub mod Lists
 pub mod OtherWaves
 pub mod Outlines
+pub mod RunsOfOneValue
 pub mod SignalCounts
 pub mod SoundEffects
 pub mod TouchedChanges

@@ -2,8 +2,12 @@
 pub mod RemarksInTurn
 pub mod RunsLeft
 pub mod PulsesFound
+pub mod DelaysFound
+pub mod ShortRunsLeft
 pub mod PlacesShown
 pub mod FallsLeft
 pub mod AllRuns
 pub mod NoFrame
+pub mod IdleLines
 pub mod PulsesTakenOut
+pub mod DelaysAtTicks

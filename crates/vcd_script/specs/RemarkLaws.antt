@@ -1,19 +1,23 @@
 -- What is true where remarks are made: the contracts of functions of `laws`.
-use Rattle.std.specs.Prelude.{ℕ, suc, ◌-◌, ◌≡◌, ◌≢◌, ◌<◌, ◌≤◌, false, if◌then◌else◌, None}
-use Rattle.std.specs.Prelude.{List, [], ◌∷◌, length, map, All}
+use Rattle.std.specs.Prelude.{ℕ, zero, suc, ◌-◌, ◌≡◌, ◌≢◌, ◌<◌, ◌≤◌, nat_lt, Bool, false}
+use Rattle.std.specs.Prelude.{if◌then◌else◌, None, List, [], ◌∷◌, length, map, All}
+use Rattle.std.specs.List.{filter, range_with_len}
 use Rattle.vcd_core.specs.declared.bit.Bit.{Bit}
 use Rattle.vcd_core.specs.declared.bit.Bit.TheVariants.{X}
-use Rattle.vcd_core.specs.Value.{letter_at}
+use Rattle.vcd_core.specs.Value.{letter_at, same_letters}
 use Rattle.vcd_core.specs.Contents.{Contents, signal_at}
 use Rattle.vcd_core.specs.Sound.{IsSound}
 use Rattle.vcd_edit.specs.declared.edit.Edit.TheVariants.{Deglitch}
-use Rattle.vcd_edit.specs.Effect.{effect}
+use Rattle.vcd_edit.specs.Effect.{is_steady, effect}
 use Rattle.vcd_edit.specs.EditFaults.{edit_fault}
 use Rattle.vcd_edit.specs.EffectLaws.{value_of}
+use Rattle.vcd_edit.specs.Effect.{signal_bit}
 use Rattle.vcd_decode.specs.UartSetup.{UartSetup}
+use Rattle.vcd_decode.specs.Uart.{falls}
 use Rattle.vcd_script.specs.CommandSignals.{IsScalarAt}
 use Rattle.vcd_script.specs.DecoderReply.{uart_lines}
-use Rattle.vcd_script.specs.Remarks.{ValueRun, value_runs, is_pulse, has_fall}
+use Rattle.vcd_script.specs.Remarks.{ValueRun, value_runs, is_pulse, delays_after_pulses, has_fall}
+use Rattle.vcd_script.specs.Remarks.{frame_ticks, idle_remark}
 
 -- these are the runs of one value at the ticks `from` to `end`: they follow one another, each has
 -- its value at each of its ticks, and the tick after it another
@@ -45,9 +49,38 @@ PulsesAreTakenOut =
     → edit_fault (Deglitch k ticks) c ≡ None
     → All (IsTakenOutIfPulse c k ticks) (value_runs c.end (signal_at c k))
 
+-- how many ticks that are not steady come right before a tick
+unfoldable pub unsteady_before : (steady : ℕ → Bool) → ℕ → ℕ
+unsteady_before steady zero = 0
+unsteady_before steady (suc t) = if steady t then 0 else suc (unsteady_before steady t)
+
+-- by how many ticks at most the edge at a tick is late after a deglitch: those right before it that
+-- are not steady. 0 if the signal does not change at that tick
+abbrev pub delay_at : Contents → (k ticks : ℕ) → ℕ → ℕ
+delay_at c k ticks t =
+    let after = value_of (effect (Deglitch k ticks) c) k in
+    if same_letters (after t) (after (t - 1)) then 0
+    else unsteady_before (is_steady ticks c.end (value_of c k)) t
+
+-- the delays that a remark tells of are those at all ticks
+abbrev pub DelaysAreAll : Type 0
+DelaysAreAll =
+    (c : Contents) (k ticks : ℕ) → IsSound c → k < length c.signals
+    → edit_fault (Deglitch k ticks) c ≡ None
+    → delays_after_pulses ticks c.end (value_runs c.end (signal_at c k))
+    ≡ filter (nat_lt 0) (map (delay_at c k ticks) (range_with_len 0 (suc c.end)))
+
 -- where a remark says that no frame begins, there is none
 abbrev pub NoFallNoFrame : Type 0
 NoFallNoFrame =
     (c : Contents) (k : ℕ) (setup : UartSetup) → IsSound c → IsScalarAt c k
     → has_fall X (map (λ d. letter_at d.value 0) (signal_at c k).changes) ≡ false
     → uart_lines c k setup ≡ []
+
+-- where no remark says that a frame may have begun before tick 0, each fall is past the ticks that
+-- a frame has which begins at tick 0
+abbrev pub FallsAfterFrame : Type 0
+FallsAfterFrame =
+    (c : Contents) (k : ℕ) (setup : UartSetup) → IsSound c → IsScalarAt c k
+    → idle_remark (frame_ticks setup) c.end (signal_at c k) ≡ []
+    → All (λ t. frame_ticks setup ≤ t) (falls (signal_bit c k 0) c.end)

@@ -1,6 +1,8 @@
--- What there is to say of a command beyond its reply: what an edit takes out of a signal, and where
--- a decoder can't read its lines. The project's own.
-use Rattle.std.specs.Prelude.{ℕ, zero, ◌+◌, ◌-◌, ◌==◌, ◌&&◌, ◌||◌, nat_lt, int_lt, ℤ, pos, ◌+ℤ◌}
+-- What there is to say of a command beyond its reply: what an edit takes out of a signal, where a
+-- decoder can't read its lines, what of it may have begun before tick 0, and what the end leaves of
+-- a transfer. The project's own.
+use Rattle.std.specs.Prelude.{ℕ, zero, ◌+◌, ◌-◌, ◌==◌, ◌&&◌, ◌||◌, nat_lt, nat_le, int_lt, ℤ}
+use Rattle.std.specs.Prelude.{pos, ◌+ℤ◌}
 use Rattle.std.specs.Prelude.{max, Bool, true, false, not, if◌then◌else◌, Option, Some, None}
 use Rattle.std.specs.Prelude.{is_some, List, [], ◌∷◌, ◌++◌, map, take, length, codes}
 use Rattle.std.specs.List.{filter, flat_map, count_by, join_by}
@@ -8,12 +10,18 @@ use Rattle.std.specs.Fmt.{decimal}
 use Rattle.vcd_core.specs.declared.bit.Bit.{Bit}
 use Rattle.vcd_core.specs.declared.bit.Bit.TheVariants.{X, Z}
 use Rattle.vcd_core.specs.declared.wave.Change.{Change}
-use Rattle.vcd_core.specs.Value.{all_x, letter_at}
+use Rattle.vcd_core.specs.Value.{all_x, letter_at, same_letters}
 use Rattle.vcd_core.specs.Wave.{change}
 use Rattle.vcd_core.specs.Contents.{Contents, SignalContents, signal_at}
+use Rattle.vcd_decode.specs.BusEvents.{bus_events}
+use Rattle.vcd_decode.specs.I2c.{bits_until}
+use Rattle.vcd_decode.specs.LastBits.{bits_after_last_byte}
 use Rattle.vcd_decode.specs.Lines.{is_zero, is_one}
+use Rattle.vcd_decode.specs.Uart.{last_bit, sample_offset}
+use Rattle.vcd_decode.specs.UartSetup.{UartSetup}
 use Rattle.vcd_edit.specs.declared.edit.Edit.{Edit}
-use Rattle.vcd_edit.specs.declared.edit.Edit.TheVariants.{Shift, Deglitch}
+use Rattle.vcd_edit.specs.declared.edit.Edit.TheVariants.{Shift, Cut, Deglitch}
+use Rattle.vcd_edit.specs.Effect.{signal_bit}
 use Rattle.vcd_edit.specs.EditFaults.{edit_fault}
 use Rattle.vcd_journal.specs.declared.step.Step.TheVariants as steps
 use Rattle.vcd_script.specs.declared.script.command.Command.{Command}
@@ -80,10 +88,47 @@ abbrev pub deglitch_remark : (pulses : List ValueRun) → List ℕ
 deglitch_remark pulses =
     codes "deglitch: pulses removed: " ++ decimal (length pulses) ++ longest_text pulses
 
+-- by how many ticks at most the edge from a run that stays to the next one is late: those of the
+-- pulses between them, if any. 0 if both runs have one value: there is no edge
+abbrev pub edge_delay : (before : ValueRun) → ValueRun → ℕ
+edge_delay before r = if same_letters r.value before.value then 0 else r.first - before.last - 1
+
+-- the same for runs in turn, each after the one before it
+unfoldable pub edge_delays : List ValueRun → List ℕ
+edge_delays (before ∷ r ∷ rs) = edge_delay before r ∷ edge_delays (r ∷ rs)
+edge_delays rs = []
+
+-- by how many ticks at most each edge right after pulses is late
+abbrev pub delays_after_pulses : (ticks end : ℕ) → List ValueRun → List ℕ
+delays_after_pulses ticks end runs =
+    filter (nat_lt 0) (edge_delays (filter (λ r. not (is_pulse ticks end r)) runs))
+
+-- by how much one of them is late at most
+abbrev pub delay_text : (delay : ℕ) → List ℕ
+delay_text delay = codes " (late by at most " ++ decimal delay ++ codes " ticks)"
+
+-- the remark on edges with these delays; none if there is none
+abbrev pub delays_remark : (delays : List ℕ) → List (List ℕ)
+delays_remark [] = []
+delays_remark delays =
+    (codes "deglitch: edges right after removed pulses: " ++ decimal (length delays)
+    ++ delay_text (greatest delays)) ∷ []
+
 -- a remark that ends with a number; none if that is 0
 abbrev pub count_remark : List ℕ → ℕ → List (List ℕ)
 count_remark text zero = []
 count_remark text count = (text ++ decimal count) ∷ []
+
+-- whether a run has fewer ticks and is no pulse, since it contains tick 0 or the end
+abbrev pub stays_short : (ticks end : ℕ) → ValueRun → Bool
+stays_short ticks end r = nat_lt (ticks_of_run r) ticks && not (is_pulse ticks end r)
+
+-- the remarks on a `deglitch` of a signal with these runs
+abbrev pub deglitch_remarks : (ticks end : ℕ) → List ValueRun → List (List ℕ)
+deglitch_remarks ticks end runs = deglitch_remark (filter (is_pulse ticks end) runs)
+    ∷ delays_remark (delays_after_pulses ticks end runs)
+    ++ count_remark (codes "deglitch: short runs at tick 0 or the end, which stay: ")
+    (count_by (stays_short ticks end) runs)
 
 -- the remarks on a `shift` of these changes, in a capture up to this end
 abbrev pub shift_remarks : (end : ℕ) → (by : ℤ) → List Change → List (List ℕ)
@@ -93,11 +138,18 @@ shift_remarks end by changes =
     ++ count_remark (codes "shift: changes moved before tick 0: ")
     (count_by (λ c. int_lt (pos c.tick +ℤ by) (pos 0)) changes)
 
+-- the remark on a cut from this tick on; a cut from tick 0 on joins nothing
+abbrev pub cut_remarks : (from : ℕ) → List (List ℕ)
+cut_remarks from = count_remark
+    (codes "cut: the capture is joined, so what is decoded from there on may be wrong: at tick ")
+    from
+
 -- the remarks on an edit that is not refused
 abbrev pub edit_remarks : Edit → Contents → List (List ℕ)
 edit_remarks (Deglitch k ticks) c =
-    deglitch_remark (filter (is_pulse ticks c.end) (value_runs c.end (signal_at c k))) ∷ []
+    deglitch_remarks ticks c.end (value_runs c.end (signal_at c k))
 edit_remarks (Shift k by) c = shift_remarks c.end by (signal_at c k).changes
+edit_remarks (Cut from to) c = cut_remarks from
 edit_remarks e c = []
 
 -- ---- decoders
@@ -145,6 +197,37 @@ fall_remark changes =
     if has_fall X (map (λ c. letter_at c.value 0) changes) then []
     else codes "uart: the line never falls from 1 to 0: no frame begins" ∷ []
 
+-- the ticks of a frame, from its beginning to the sample of its last bit, both included
+abbrev pub frame_ticks : UartSetup → ℕ
+frame_ticks u = sample_offset u (last_bit u) + 1
+
+-- whether a line is idle, that is 1, for this many ticks from tick 0 on, by its runs
+abbrev pub is_idle_first : (ticks : ℕ) → List ValueRun → Bool
+is_idle_first ticks [] = false
+is_idle_first ticks (r ∷ rs) = is_one (letter_at r.value 0) && nat_le ticks (ticks_of_run r)
+
+-- the text of the remark on a line that is not idle for a frame
+abbrev pub frame_text : List ℕ
+frame_text = codes "uart: the line is not idle for a frame from tick 0 on: if one began before, "
+    ++ codes "bytes up to the first pause may be wrong"
+
+-- the remark on a line that falls, so that a frame may begin, and is not idle for this many ticks
+abbrev pub idle_remark : (ticks end : ℕ) → SignalContents → List (List ℕ)
+idle_remark ticks end s =
+    if has_fall X (map (λ d. letter_at d.value 0) s.changes)
+    && not (is_idle_first ticks (value_runs end s))
+    then frame_text ∷ [] else []
+
+-- the text of the remark on a CS that is 0 at tick 0
+abbrev pub selected_text : List ℕ
+selected_text = codes "spi: CS is 0 at tick 0: words are counted from there, and until CS is 1 "
+    ++ codes "they may be wrong"
+
+-- the text of the remark on words without a CS
+abbrev pub without_cs_text : List ℕ
+without_cs_text = codes "spi: without CS words are counted from tick 0: if one began before, all "
+    ++ codes "may be wrong"
+
 -- on a capture
 module _ (c : Contents) where
   -- the remark on the signal at a position as a line of a decoder
@@ -157,6 +240,23 @@ module _ (c : Contents) where
   optional_line_remark line None = []
   optional_line_remark line (Some k) = line_remark false line k
 
+  -- the remark on a CS that is 0 at tick 0, or absent
+  abbrev pub selected_remark : Option ℕ → List (List ℕ)
+  selected_remark None = without_cs_text ∷ []
+  selected_remark (Some k) = if is_zero (signal_bit c k 0 0) then selected_text ∷ [] else []
+
+  -- the remark on the bits of a bus before its first condition; none if there is none
+  abbrev pub early_bits_remark : (scl sda : ℕ) → List (List ℕ)
+  early_bits_remark scl sda =
+      count_remark (codes "i2c: bits before the first start or stop, which are not decoded: ")
+      (length (bits_until (bus_events (signal_bit c scl 0) (signal_bit c sda 0) c.end)))
+
+  -- the remark on the bits of a bus after its last byte; none if there is none
+  abbrev pub last_bits_remark : (scl sda : ℕ) → List (List ℕ)
+  last_bits_remark scl sda =
+      count_remark (codes "i2c: bits after the last byte, which are not decoded: ")
+      (bits_after_last_byte (bus_events (signal_bit c scl 0) (signal_bit c sda 0) c.end))
+
 -- ---- all commands
 
 -- the remarks on a command that is carried out on a capture; none on an edit that is refused
@@ -165,13 +265,15 @@ remarks c (commands.Step (steps.Edit e)) =
     if is_some (edit_fault e c) then [] else edit_remarks e c
 remarks c (commands.Uart k setup) =
     line_remark c false (codes "uart: the line") k ++ fall_remark (signal_at c k).changes
+    ++ idle_remark (frame_ticks setup) c.end (signal_at c k)
 remarks c (commands.Spi clk mosi miso cs setup) =
     line_remark c false (codes "spi: CLK") clk
     ++ optional_line_remark c (codes "spi: MOSI") mosi
     ++ optional_line_remark c (codes "spi: MISO") miso
-    ++ optional_line_remark c (codes "spi: CS") cs
+    ++ optional_line_remark c (codes "spi: CS") cs ++ selected_remark c cs
 remarks c (commands.I2c scl sda) =
     line_remark c true (codes "i2c: SCL") scl ++ line_remark c true (codes "i2c: SDA") sda
+    ++ early_bits_remark c scl sda ++ last_bits_remark c scl sda
 remarks c command = []
 
 -- the text of a remark on the line of this number, with a line feed (10) at its end

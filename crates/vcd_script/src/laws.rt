@@ -4,8 +4,8 @@
 ghost use Rattle.vcd_script.specs.FileLaws.{CutFileIsReadAgain, SameBytesSameResult};
 ghost use Rattle.vcd_script.specs.RemarksOfRun.{RemarksWithOthers, RemarksOnHollow};
 ghost use Rattle.vcd_script.specs.SessionLines.{SessionLinesAreRun};
-ghost use Rattle.vcd_script.specs.RemarkLaws.{NoFallNoFrame, PulsesAreTakenOut};
-ghost use Rattle.vcd_script.specs.RemarkLaws.{ValueRunsAreAll};
+ghost use Rattle.vcd_script.specs.RemarkLaws.{FallsAfterFrame, NoFallNoFrame, PulsesAreTakenOut};
+ghost use Rattle.vcd_script.specs.RemarkLaws.{ValueRunsAreAll, DelaysAreAll};
 ghost use Rattle.vcd_script.specs.SessionRemarks.{SessionRemarksAreRun};
 ghost use Rattle.vcd_script.specs.HollowPart.{HollowIsPart};
 ghost use Rattle.vcd_script.specs.HollowRun.{CommandIsOfOutline, HistoryIsOfOutline};
@@ -57,12 +57,16 @@ pub fn hollow_captures_are_parts()
 {}
 
 /// The runs of a signal, by which remarks count pulses and name places, are all its runs of one
-/// value, from tick 0 to the end. The pulses are just those that a deglitch takes out. Where a
-/// remark says that no frame begins, there is none.
+/// value, from tick 0 to the end. The pulses are just those that a deglitch takes out. The edges
+/// that are late are those of the signal after it, right after ticks that are not steady. Where a
+/// remark says that no frame begins, there is none. Where none says that a frame may have begun
+/// before tick 0, each fall is past the ticks of a frame.
 pub fn remarks_are_true()
     ensures runs { ValueRunsAreAll }
     ensures pulses { PulsesAreTakenOut }
+    ensures edges { DelaysAreAll }
     ensures frames { NoFallNoFrame }
+    ensures idle { FallsAfterFrame }
 {
     deglitch_takes_short_runs_out();
 }

@@ -2,10 +2,12 @@
 
 ghost use Rattle.std.specs.Prelude.{◌≡◌, ◌++◌, IfOk, OnOk};
 ghost use Rattle.vcd_core.specs.CaptureContents.{contents};
+ghost use Rattle.vcd_core.specs.Sound.{IsSound};
 ghost use Rattle.vcd_script.specs.CommandSignals.{HasCommandSignals};
 ghost use Rattle.vcd_script.specs.Remarks.{remarks, remarks_text};
 
 mod appending;
+mod beginnings;
 mod decoders;
 mod edits;
 mod places;
@@ -22,11 +24,14 @@ use vcd_core::Capture;
 use vcd_journal::Step;
 
 /// The remarks on a command, which the line of this number asks for on this capture: how many
-/// pulses a `deglitch` takes out and how long the longest is, how many changes a `shift` moves past
-/// the end or before tick 0, and where a decoder can't read its lines. Each is a line that begins
-/// with the number. An edit that is refused has none, and neither has any other command.
+/// pulses a `deglitch` takes out and how long the longest is, how many edges it makes late and by
+/// how many ticks at most, how many short runs it leaves at tick 0 and at the end, how many changes
+/// a `shift` moves past the end or before tick 0, where a `cut` joins the capture, where a decoder
+/// can't read its lines, that what it reads may have begun before tick 0, and how many bits the end
+/// leaves of a transfer. Each is a line that begins with the number. An edit that is refused has
+/// none, and neither has any other command.
 ///
-/// It takes a step or two for each change of the signals of the command, and the memory is that of
+/// It takes a few steps for each change of the signals of the command, and the memory is that of
 /// the text.
 pub fn remarks_on(
     alloc: Global,
@@ -34,7 +39,8 @@ pub fn remarks_on(
     number: u64,
     command: &Command,
 ) -> MemoryResult<Vec<u8>>
-    requires { HasCommandSignals (contents capture.now) command.now }
+    requires sound { IsSound (contents capture.now) }
+    requires signals { HasCommandSignals (contents capture.now) command.now }
     ensures { IfOk result (λ text. text.items
         ≡ remarks_text number (remarks (contents capture.now) command.now)) }
 {
@@ -51,13 +57,16 @@ fn append_remarks(
     number: u64,
     command: &Command,
 ) -> MemoryResult<()>
-    requires { HasCommandSignals (contents capture.now) command.now }
+    requires sound { IsSound (contents capture.now) }
+    requires signals { HasCommandSignals (contents capture.now) command.now }
     ensures { OnOk result (text.new.items ≡ text.old.items
         ++ remarks_text number (remarks (contents capture.now) command.now)) }
 {
     match command {
         Command::Step(Step::Edit(edit)) => append_edit_remarks(text, capture, number, edit),
-        Command::Uart { signal, .. } => append_uart_remarks(text, capture, number, *signal),
+        Command::Uart { signal, setup } => {
+            append_uart_remarks(text, capture, number, *signal, setup)
+        }
         Command::Spi {
             clk,
             mosi,

@@ -10,6 +10,7 @@ mod waves;
 
 pub use answering::answer_line;
 pub(crate) use answering::is_no_memory;
+pub(crate) use decoding::scalar_wave;
 pub use reply::Reply;
 use vcd_core::NoMemory;
 

@@ -1,2 +1,5 @@
 -- Lemmas of `i2c_bus/bus_walk`.
 pub mod EventByEvent
+pub mod EventsOfTicks
+pub mod BitsBefore
+pub mod BitsAfter

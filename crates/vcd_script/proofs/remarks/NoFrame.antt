@@ -9,12 +9,13 @@ use Rattle.vcd_core.specs.declared.bit.Bit.TheVariants.{Zero, X}
 use Rattle.vcd_core.specs.declared.wave.Change.{Change}
 use Rattle.vcd_core.specs.Value.{all_x, letter_at}
 use Rattle.vcd_core.specs.Wave.{value_from, AreChangesFrom, AllUpTo}
-use Rattle.vcd_core.specs.Contents.{no_signal, signal_at}
-use Rattle.vcd_core.specs.Sound.{IsSoundSignal}
+use Rattle.vcd_core.specs.Contents.{Contents, no_signal, signal_at}
+use Rattle.vcd_core.specs.Sound.{IsSound, IsSoundSignal}
 use Rattle.vcd_core.proofs.shared.Waves.{value_past, value_early}
 use Rattle.vcd_decode.specs.Lines.{is_zero, is_one, letter_before}
 use Rattle.vcd_decode.specs.Uart.{falls, frames, begun_frame, uart_annotations}
 use Rattle.vcd_edit.specs.Effect.{signal_bit}
+use Rattle.vcd_script.specs.CommandSignals.{IsScalarAt}
 use Rattle.vcd_script.specs.DecoderReply.{annotation_line, nibbles}
 use Rattle.vcd_script.specs.Remarks.{has_fall}
 use Rattle.vcd_script.specs.RemarkLaws.{NoFallNoFrame}
@@ -78,14 +79,18 @@ no_falls_from before t (suc n) end (c ∷ cs) f all (from, other, wide, rest) (w
     ]
 
 -- on a signal of a sound capture
-pub no_fall_no_frame : NoFallNoFrame
-unfolding falls frames uart_annotations
-no_fall_no_frame c k u sound scalar none =
+pub no_fall : (c : Contents) (k : ℕ) → IsSound c → IsScalarAt c k
+    → has_fall X (map (λ d. letter_at d.value 0) (signal_at c k).changes) ≡ false → falls (signal_bit c k 0) c.end ≡ []
+unfolding falls
+no_fall c k sound scalar none =
     let signal : IsSoundSignal c.end (signal_at c k) = sound.signals k no_signal scalar.0 in
     let start : letter_at (all_x (signal_at c k).width) 0 ≡ X = ap (λ n. letter_at (all_x n) 0) scalar.1 in
-    let no_falls : falls (signal_bit c k 0) c.end ≡ [] =
     no_falls_from (all_x (signal_at c k).width) 0 (suc c.end) c.end (signal_at c k).changes (signal_bit c k 0)
     (omega arith) signal.wave.rise signal.ticks (λ s _. refl) (sym start)
-    (ap (λ b. has_fall b (map (λ d. letter_at d.value 0) (signal_at c k).changes)) start ∙ none) in
+    (ap (λ b. has_fall b (map (λ d. letter_at d.value 0) (signal_at c k).changes)) start ∙ none)
+
+pub no_fall_no_frame : NoFallNoFrame
+unfolding frames uart_annotations
+no_fall_no_frame c k u sound scalar none =
     ap (λ starts. map (annotation_line (codes "uart") (nibbles u.data_bits))
-    (frames (begun_frame (signal_bit c k 0) c.end u) 0 starts)) no_falls
+    (frames (begun_frame (signal_bit c k 0) c.end u) 0 starts)) (no_fall c k sound scalar none)

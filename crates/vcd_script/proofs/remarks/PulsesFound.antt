@@ -6,36 +6,36 @@ use Rattle.vcd_core.specs.declared.wave.Change.{Change}
 use Rattle.vcd_core.specs.Value.{all_x}
 use Rattle.vcd_core.specs.Wave.{change}
 use Rattle.vcd_core.specs.Contents.{Contents, signal_at}
-use Rattle.vcd_script.specs.declared.remarks.pulses.Pulses.{Pulses}
+use Rattle.vcd_script.specs.declared.remarks.pulses.Spans.{Spans}
 use Rattle.vcd_script.specs.Remarks.{ValueRun, run_begun, runs_begun, changes_from_zero, is_pulse, ticks_of_run}
 use Rattle.vcd_script.specs.Remarks.{greatest, deglitch_remark, value_runs}
-use Rattle.vcd_script.specs.inside.remarks.Parts.{pulse_ticks, with_pulse, pulses_text}
+use Rattle.vcd_script.specs.inside.remarks.Parts.{pulse_ticks, with_span, pulses_text}
 use Rattle.vcd_script.proofs.remarks.RunsLeft.{runs_left, no_runs_left}
 
 -- ---- one run more
 
-module _ (r : ValueRun) (rest : List ValueRun) (found : Pulses) (all : ℕ) where
+module _ (r : ValueRun) (rest : List ValueRun) (found : Spans) (all : ℕ) where
   counted : (b : Bool) → found.count + length (cond b (r ∷ rest) rest) ≡ all
-      → (with_pulse found (if b then Some (ticks_of_run r) else None)).count + length rest ≡ all
+      → (with_span found (if b then Some (ticks_of_run r) else None)).count + length rest ≡ all
   counted true is = omega arith
   counted false is = is
 
   compared : (b : Bool) → max found.longest (greatest (map ticks_of_run (cond b (r ∷ rest) rest))) ≡ all
-      → max (with_pulse found (if b then Some (ticks_of_run r) else None)).longest (greatest (map ticks_of_run rest))
+      → max (with_span found (if b then Some (ticks_of_run r) else None)).longest (greatest (map ticks_of_run rest))
       ≡ all
   unfolding greatest
   compared true is = omega arith
   compared false is = is
 
 module _ (ticks end : ℕ) (cs : List Change) (i : ℕ) (c : Change) (later : List Change) (within : i < length cs)
-    (at : c ≡ get_or cs i c) (rest : later ≡ drop (i + 1) cs) (found next : Pulses) (pulse : Option ℕ)
-    (asked : pulse ≡ pulse_ticks ticks end (run_begun end c later)) (is : next ≡ with_pulse found pulse) (all : ℕ) where
+    (at : c ≡ get_or cs i c) (rest : later ≡ drop (i + 1) cs) (found next : Spans) (pulse : Option ℕ)
+    (asked : pulse ≡ pulse_ticks ticks end (run_begun end c later)) (is : next ≡ with_span found pulse) (all : ℕ) where
   pub count_goes_on : found.count + length (filter (is_pulse ticks end) (runs_begun end (drop i cs))) ≡ all
       → next.count + length (filter (is_pulse ticks end) (runs_begun end (drop (i + 1) cs))) ≡ all
   count_goes_on so_far =
       let here : ValueRun = run_begun end c later in
       let left : List ValueRun = filter (is_pulse ticks end) (runs_begun end (drop (i + 1) cs)) in
-      ap (λ (p : Pulses). p.count + length left) (is ∙ ap (with_pulse found) asked)
+      ap (λ (p : Spans). p.count + length left) (is ∙ ap (with_span found) asked)
       ∙ counted here left found all (is_pulse ticks end here)
       (ap (λ rs. found.count + length (filter (is_pulse ticks end) rs))
       (sym (runs_left end cs i c later within at rest)) ∙ so_far)
@@ -47,13 +47,13 @@ module _ (ticks end : ℕ) (cs : List Change) (i : ℕ) (c : Change) (later : Li
   longest_goes_on so_far =
       let here : ValueRun = run_begun end c later in
       let left : List ValueRun = filter (is_pulse ticks end) (runs_begun end (drop (i + 1) cs)) in
-      ap (λ (p : Pulses). max p.longest (greatest (map ticks_of_run left))) (is ∙ ap (with_pulse found) asked)
+      ap (λ (p : Spans). max p.longest (greatest (map ticks_of_run left))) (is ∙ ap (with_span found) asked)
       ∙ compared here left found all (is_pulse ticks end here)
       (ap (λ rs. max found.longest (greatest (map ticks_of_run (filter (is_pulse ticks end) rs))))
       (sym (runs_left end cs i c later within at rest)) ∙ so_far)
 
--- at most one pulse more
-pub few_more : (found : Pulses) (pulse : Option ℕ) → (with_pulse found pulse).count ≤ found.count + 1
+-- at most one span more
+pub few_more : (found : Spans) (pulse : Option ℕ) → (with_span found pulse).count ≤ found.count + 1
 few_more found None = omega arith
 few_more found (Some n) = omega arith
 
@@ -87,7 +87,7 @@ pulses_of_changes ticks end width (c ∷ cs) = by_first (c.tick == 0) where
 -- ---- the remark
 
 -- a count and the longest of pulses as text
-remark_of_pulses : (found : Pulses) (pulses : List ValueRun) → found.count ≡ length pulses
+remark_of_pulses : (found : Spans) (pulses : List ValueRun) → found.count ≡ length pulses
     → found.longest ≡ greatest (map ticks_of_run pulses) → pulses_text found ≡ deglitch_remark pulses
 remark_of_pulses found [] count longest =
     λ i. pulses_text (record { count = count i; longest = longest i })
@@ -95,7 +95,7 @@ remark_of_pulses found (r ∷ rs) count longest =
     λ i. pulses_text (record { count = count i; longest = longest i })
 
 -- on a signal of a capture
-pub remark_on_pulses : (c : Contents) (k ticks end : ℕ) (cs : List Change) (found : Pulses) → end ≡ c.end
+pub remark_on_pulses : (c : Contents) (k ticks end : ℕ) (cs : List Change) (found : Spans) → end ≡ c.end
     → cs ≡ (signal_at c k).changes → found.count ≡ length (filter (is_pulse ticks end) (runs_begun end cs))
     → found.longest ≡ greatest (map ticks_of_run (filter (is_pulse ticks end) (runs_begun end cs)))
     → pulses_text found ≡ deglitch_remark (filter (is_pulse ticks c.end) (value_runs c.end (signal_at c k)))

@@ -17,7 +17,7 @@ use Rattle.vcd_script.specs.RemarkLaws.{AreRunsFrom, IsTakenOutIfPulse, PulsesAr
 use Rattle.vcd_script.proofs.remarks.AllRuns.{value_runs_are_all}
 
 -- runs begin no later than after the end
-up_to_end : (f : ℕ → List Bit) (from end : ℕ) (rs : List ValueRun) → AreRunsFrom f from end rs → from ≤ suc end
+pub up_to_end : (f : ℕ → List Bit) (from end : ℕ) (rs : List ValueRun) → AreRunsFrom f from end rs → from ≤ suc end
 up_to_end f from end [] done = omega (arith, done)
 up_to_end f from end (r ∷ rs) (at, ordered, same, other, rest) = omega (arith, up_to_end f (suc r.last) end rs rest)
 

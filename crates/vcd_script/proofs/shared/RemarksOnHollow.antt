@@ -4,8 +4,12 @@ use Rattle.std.proofs.Common.{◌∙◌, true, Option, Some, None, if◌then◌e
 use Rattle.std.specs.Prelude.{codes, is_some}
 use Rattle.std.specs.List.{AllByRecursion, enumerate_from, filter, flat_map}
 use Rattle.std.specs.Option.{option_to_list}
-use Rattle.vcd_core.specs.Contents.{Contents}
+use Rattle.vcd_core.specs.Contents.{Contents, signal_value}
 use Rattle.vcd_core.specs.Value.{letter_at}
+use Rattle.vcd_decode.specs.BusEvents.{bus_events}
+use Rattle.vcd_decode.specs.I2c.{bits_until}
+use Rattle.vcd_decode.specs.LastBits.{bits_after_last_byte}
+use Rattle.vcd_decode.specs.Lines.{is_zero}
 use Rattle.vcd_edit.specs.OtherWaves.{OtherChanges, with_others, HaveOwn, waves_read}
 use Rattle.vcd_edit.specs.declared.edit.Edit.{Edit}
 use Rattle.vcd_edit.specs.declared.edit.Edit.TheVariants.{Shift, Deglitch}
@@ -21,9 +25,10 @@ use Rattle.vcd_script.specs.declared.script.command.Command.TheVariants as comma
 use Rattle.vcd_script.specs.declared.script.line_error.LineError.{LineError}
 use Rattle.vcd_script.specs.ScriptCommands.{command_of_line}
 use Rattle.vcd_script.specs.HollowRun.{waves_asked, origins_of_line}
-use Rattle.vcd_script.specs.Remarks.{value_runs, is_pulse, deglitch_remark, shift_remarks, edit_remarks, is_lost}
+use Rattle.vcd_script.specs.Remarks.{value_runs, deglitch_remarks, shift_remarks, edit_remarks, is_lost}
 use Rattle.vcd_script.specs.Remarks.{lost_letters, lost_remark, fall_remark, line_remark, optional_line_remark}
-use Rattle.vcd_script.specs.Remarks.{remarks, remarks_text}
+use Rattle.vcd_script.specs.Remarks.{idle_remark, selected_text, selected_remark, count_remark, early_bits_remark}
+use Rattle.vcd_script.specs.Remarks.{last_bits_remark, frame_ticks, remarks, remarks_text}
 use Rattle.vcd_script.specs.RemarksOfRun.{remarks_asked, line_remarks, RemarksWithOthers, RemarksOnHollow}
 use Rattle.vcd_script.specs.Run.{history_at, capture_at}
 use Rattle.vcd_script.proofs.script.CommandsOfOutline.{command_is_of_outline}
@@ -45,9 +50,28 @@ module _ (others : List OtherChanges) (c : Contents) where
   same_line_if_there line None own = refl
   same_line_if_there line (Some k) own = same_line false line k own
 
+  same_selection : (o : Option ℕ) → HaveOwn others (option_to_list o)
+      → selected_remark replaced o ≡ selected_remark c o
+  same_selection None own = refl
+  same_selection (Some k) own = λ i.
+      if is_zero (letter_at (signal_value (same_signal others c k own.0 i) 0) 0) then selected_text ∷ [] else []
+
+  same_bits : (scl sda : ℕ) → HaveOwn others (scl ∷ []) → HaveOwn others (sda ∷ [])
+      → early_bits_remark replaced scl sda ≡ early_bits_remark c scl sda
+  same_bits scl sda own other = λ i.
+      count_remark (codes "i2c: bits before the first start or stop, which are not decoded: ")
+      (length (bits_until (bus_events (λ t. letter_at (signal_value (same_signal others c scl own.0 i) t) 0)
+      (λ t. letter_at (signal_value (same_signal others c sda other.0 i) t) 0) c.end)))
+
+  same_last_bits : (scl sda : ℕ) → HaveOwn others (scl ∷ []) → HaveOwn others (sda ∷ [])
+      → last_bits_remark replaced scl sda ≡ last_bits_remark c scl sda
+  same_last_bits scl sda own other = λ i. count_remark (codes "i2c: bits after the last byte, which are not decoded: ")
+      (bits_after_last_byte (bus_events (λ t. letter_at (signal_value (same_signal others c scl own.0 i) t) 0)
+      (λ t. letter_at (signal_value (same_signal others c sda other.0 i) t) 0) c.end))
+
   same_edit : (e : Edit) → HaveOwn others (waves_read e) → edit_remarks e replaced ≡ edit_remarks e c
   same_edit (Deglitch k ticks) own = λ i.
-      deglitch_remark (filter (is_pulse ticks c.end) (value_runs c.end (same_signal others c k own.0 i))) ∷ []
+      deglitch_remarks ticks c.end (value_runs c.end (same_signal others c k own.0 i))
   same_edit (Shift k by) own = λ i. shift_remarks c.end by (same_signal others c k own.0 i).changes
   same_edit e own = refl
 
@@ -58,16 +82,18 @@ remarks_with_others others c (commands.Step (steps.Edit e)) own = λ i.
     else same_edit others c e own i
 remarks_with_others others c (commands.Uart k setup) own = λ i.
     same_line others c false (codes "uart: the line") k own i ++ fall_remark (same_signal others c k own.0 i).changes
+    ++ idle_remark (frame_ticks setup) c.end (same_signal others c k own.0 i)
 remarks_with_others others c (commands.Spi clk mosi miso cs setup) own =
     let last = all_split _ (option_to_list mosi ++ option_to_list miso) (option_to_list cs) own.1 in
     let first = all_split _ (option_to_list mosi) (option_to_list miso) last.0 in
     λ i. same_line others c false (codes "spi: CLK") clk (own.0, tt) i
     ++ same_line_if_there others c (codes "spi: MOSI") mosi first.0 i
     ++ same_line_if_there others c (codes "spi: MISO") miso first.1 i
-    ++ same_line_if_there others c (codes "spi: CS") cs last.1 i
+    ++ same_line_if_there others c (codes "spi: CS") cs last.1 i ++ same_selection others c cs last.1 i
 remarks_with_others others c (commands.I2c scl sda) own = λ i.
     same_line others c true (codes "i2c: SCL") scl (own.0, tt) i
-    ++ same_line others c true (codes "i2c: SDA") sda own.1 i
+    ++ same_line others c true (codes "i2c: SDA") sda own.1 i ++ same_bits others c scl sda (own.0, tt) own.1 i
+    ++ same_last_bits others c scl sda (own.0, tt) own.1 i
 remarks_with_others others c command own = refl
 
 -- ---- the remarks on a line

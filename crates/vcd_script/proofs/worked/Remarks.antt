@@ -1,17 +1,24 @@
 -- Worked cases: the remarks on commands.
 use Rattle.std.proofs.Common.{◌≡◌, refl}
-use Rattle.std.specs.Prelude.{ℕ, List, [], ◌∷◌, codes, pos, negsuc}
+use Rattle.std.specs.Prelude.{ℕ, List, [], ◌∷◌, ◌++◌, codes, pos, negsuc, Some, None}
 use Rattle.std.specs.Fmt.{digits}
 use Rattle.vcd_core.specs.declared.bit.Bit.TheVariants.{Zero, One, X, Z}
 use Rattle.vcd_core.specs.declared.wave.Change.{Change}
-use Rattle.vcd_decode.specs.UartSetup.{UartSetup}
+use Rattle.vcd_core.specs.Wave.{value_from}
+use Rattle.vcd_decode.specs.declared.uart_setup.Parity.TheVariants as parities
+use Rattle.vcd_decode.specs.BusEvents.{bus_events}
+use Rattle.vcd_decode.specs.I2c.{bits_until}
+use Rattle.vcd_decode.specs.LastBits.{bits_after_last_byte}
+use Rattle.vcd_decode.specs.SpiSetup.{SpiSetup}
+use Rattle.vcd_decode.specs.Uart.{sample_offset}
+use Rattle.vcd_decode.specs.UartSetup.{UartSetup, uart_setup}
 use Rattle.vcd_edit.specs.declared.edit.Edit.{Edit}
-use Rattle.vcd_edit.specs.declared.edit.Edit.TheVariants.{Shift, Deglitch}
+use Rattle.vcd_edit.specs.declared.edit.Edit.TheVariants.{Shift, Cut, Deglitch}
 use Rattle.vcd_edit.specs.EditFaults.{edit_fault}
 use Rattle.vcd_edit.proofs.worked.Records.{from, wire, capture, alone}
 use Rattle.vcd_journal.specs.declared.step.Step.TheVariants as steps
 use Rattle.vcd_script.specs.declared.script.command.Command.TheVariants as commands
-use Rattle.vcd_script.specs.Remarks.{runs_begun, greatest, has_fall, remarks}
+use Rattle.vcd_script.specs.Remarks.{runs_begun, greatest, edge_delays, has_fall, remarks}
 
 -- x up to the tick 1, pulses at 5, 7 and 9, and no change at 0
 abbrev rough : List Change
@@ -23,18 +30,49 @@ remarks_on_edit e = remarks (alone 20 rough) (commands.Step (steps.Edit e))
 
 -- ---- edits
 
--- the run of 0 from 2 to 4 has three ticks, and stays
-three_pulses : remarks_on_edit (Deglitch 0 3) ≡ codes "deglitch: pulses removed: 3 (ticks of the longest: 2)" ∷ []
-unfolding remarks edit_fault runs_begun greatest digits
+-- the run of 0 from 2 to 4 has three ticks, and stays; x has two, and stays at tick 0
+three_pulses : remarks_on_edit (Deglitch 0 3) ≡ codes "deglitch: pulses removed: 3 (ticks of the longest: 2)"
+    ∷ codes "deglitch: short runs at tick 0 or the end, which stay: 1" ∷ []
+unfolding remarks edit_fault runs_begun greatest edge_delays digits
 three_pulses = refl
 
 no_pulse : remarks_on_edit (Deglitch 0 1) ≡ codes "deglitch: pulses removed: 0" ∷ []
-unfolding remarks edit_fault runs_begun greatest digits
+unfolding remarks edit_fault runs_begun greatest edge_delays digits
 no_pulse = refl
+
+-- the run of 0 from 2 to 4 is a pulse too, between x up to 1 and 0 from 10 on
+four_pulses : remarks_on_edit (Deglitch 0 4) ≡ codes "deglitch: pulses removed: 4 (ticks of the longest: 3)"
+    ∷ codes "deglitch: edges right after removed pulses: 1 (late by at most 8 ticks)"
+    ∷ codes "deglitch: short runs at tick 0 or the end, which stay: 1" ∷ []
+unfolding remarks edit_fault runs_begun greatest edge_delays digits
+four_pulses = refl
+
+-- a line that bounces before it is 1 from 3 on, and before it is 0 from 13 on
+two_edges : remarks (alone 20 (from 0 Zero ∷ from 1 One ∷ from 2 Zero ∷ from 3 One ∷ from 10 Zero ∷ from 11 One
+    ∷ from 13 Zero ∷ [])) (commands.Step (steps.Edit (Deglitch 0 3)))
+    ≡ codes "deglitch: pulses removed: 4 (ticks of the longest: 2)"
+    ∷ codes "deglitch: edges right after removed pulses: 2 (late by at most 3 ticks)"
+    ∷ codes "deglitch: short runs at tick 0 or the end, which stay: 1" ∷ []
+unfolding remarks edit_fault runs_begun greatest edge_delays digits
+two_edges = refl
+
+-- a window that begins and ends within spikes
+spikes_at_both_ends : remarks (alone 20 (from 0 One ∷ from 2 Zero ∷ from 19 One ∷ []))
+    (commands.Step (steps.Edit (Deglitch 0 5))) ≡ codes "deglitch: pulses removed: 0"
+    ∷ codes "deglitch: short runs at tick 0 or the end, which stay: 2" ∷ []
+unfolding remarks edit_fault runs_begun greatest edge_delays digits
+spikes_at_both_ends = refl
+
+-- the one run of a line without a change contains both ends, and has 21 ticks
+one_short_run : remarks (alone 20 []) (commands.Step (steps.Edit (Deglitch 0 22)))
+    ≡ codes "deglitch: pulses removed: 0"
+    ∷ codes "deglitch: short runs at tick 0 or the end, which stay: 1" ∷ []
+unfolding remarks edit_fault runs_begun greatest edge_delays digits
+one_short_run = refl
 
 -- a refused edit has no remark
 refused : remarks_on_edit (Deglitch 0 0) ≡ []
-unfolding remarks edit_fault runs_begun greatest digits
+unfolding remarks edit_fault runs_begun greatest edge_delays digits
 refused = refl
 
 -- the change at 15 comes to 20, which is the end, and then past it
@@ -51,13 +89,32 @@ before_zero : remarks_on_edit (Shift 0 (negsuc 4)) ≡ codes "shift: changes mov
 unfolding remarks edit_fault digits
 before_zero = refl
 
+-- a cut from tick 0 on joins nothing
+joined : remarks_on_edit (Cut 4 9)
+    ≡ codes "cut: the capture is joined, so what is decoded from there on may be wrong: at tick 4" ∷ []
+unfolding remarks edit_fault digits
+joined = refl
+
+not_joined : remarks_on_edit (Cut 0 9) ≡ []
+unfolding remarks edit_fault digits
+not_joined = refl
+
 -- ---- decoders
 
+-- a byte takes 48 ticks: its stop bit is sampled after 47
+bytes : UartSetup
+bytes = uart_setup 5 1 8 parities.None 1
+
+-- the remark on a line that is not idle for them
+abbrev not_idle : List ℕ
+not_idle = codes "uart: the line is not idle for a frame from tick 0 on: if one began before, "
+    ++ codes "bytes up to the first pause may be wrong"
+
 -- a line of that shape falls at 7
-rough_uart : (setup : UartSetup) → remarks (alone 20 rough) (commands.Uart 0 setup)
-    ≡ codes "uart: the line is x or z at 0-1, 9: edges and bits there are lost" ∷ []
-unfolding remarks runs_begun has_fall digits
-rough_uart setup = refl
+rough_uart : remarks (alone 20 rough) (commands.Uart 0 bytes)
+    ≡ codes "uart: the line is x or z at 0-1, 9: edges and bits there are lost" ∷ not_idle ∷ []
+unfolding remarks runs_begun has_fall sample_offset digits bytes
+rough_uart = refl
 
 -- a line without a change
 silent_uart : (setup : UartSetup) → remarks (alone 20 []) (commands.Uart 0 setup)
@@ -66,11 +123,54 @@ silent_uart : (setup : UartSetup) → remarks (alone 20 []) (commands.Uart 0 set
 unfolding remarks runs_begun has_fall digits
 silent_uart setup = refl
 
--- on I2C z is 1, and six places are shown as five and one more
+-- a line that is idle for as many ticks, or for one tick less
+idle_uart : remarks (alone 60 (from 0 One ∷ from 48 Zero ∷ [])) (commands.Uart 0 bytes) ≡ []
+unfolding remarks runs_begun has_fall sample_offset digits bytes
+idle_uart = refl
+
+hasty_uart : remarks (alone 60 (from 0 One ∷ from 47 Zero ∷ [])) (commands.Uart 0 bytes) ≡ not_idle ∷ []
+unfolding remarks runs_begun has_fall sample_offset digits bytes
+hasty_uart = refl
+
+-- a chip that is selected at tick 0, one that is not selected before tick 1, and one without a CS
+selected_spi : (setup : SpiSetup) → remarks (alone 20 (from 0 Zero ∷ [])) (commands.Spi 0 None None (Some 0) setup)
+    ≡ codes "spi: CS is 0 at tick 0: words are counted from there, and until CS is 1 they may be wrong" ∷ []
+unfolding remarks runs_begun value_from digits
+selected_spi setup = refl
+
+later_spi : (setup : SpiSetup)
+    → remarks (alone 20 (from 0 One ∷ from 1 Zero ∷ [])) (commands.Spi 0 None None (Some 0) setup) ≡ []
+unfolding remarks runs_begun value_from digits
+later_spi setup = refl
+
+spi_without_cs : (setup : SpiSetup) → remarks (alone 20 (from 0 Zero ∷ [])) (commands.Spi 0 None None None setup)
+    ≡ codes "spi: without CS words are counted from tick 0: if one began before, all may be wrong" ∷ []
+unfolding remarks runs_begun value_from digits
+spi_without_cs setup = refl
+
+-- on I2C z is 1, and six places are shown as five and one more; SCL rises at 5, 9 and 15
 rough_i2c : remarks (capture 20 (wire (codes "scl") rough ∷ wire (codes "sda") (from 0 One ∷ from 2 X ∷ from 3 One
     ∷ from 4 X ∷ from 5 One ∷ from 6 X ∷ from 7 One ∷ from 8 X ∷ from 9 One ∷ from 11 X ∷ from 14 Z ∷ from 20 X ∷ [])
     ∷ [])) (commands.I2c 0 1)
     ≡ codes "i2c: SCL is x at 0-1: edges and bits there are lost"
-    ∷ codes "i2c: SDA is x at 2, 4, 6, 8, 11-13, and 1 more: edges and bits there are lost" ∷ []
-unfolding remarks runs_begun digits
+    ∷ codes "i2c: SDA is x at 2, 4, 6, 8, 11-13, and 1 more: edges and bits there are lost"
+    ∷ codes "i2c: bits before the first start or stop, which are not decoded: 3" ∷ []
+unfolding remarks runs_begun value_from bus_events bits_until bits_after_last_byte digits
 rough_i2c = refl
+
+-- a bit before a stop, and one after it
+stopped_i2c : remarks (capture 20 (wire (codes "scl") (from 0 Zero ∷ from 5 One ∷ from 7 Zero ∷ from 9 One ∷ [])
+    ∷ wire (codes "sda") (from 0 Zero ∷ from 6 One ∷ []) ∷ [])) (commands.I2c 0 1)
+    ≡ codes "i2c: bits before the first start or stop, which are not decoded: 1"
+    ∷ codes "i2c: bits after the last byte, which are not decoded: 1" ∷ []
+unfolding remarks runs_begun value_from bus_events bits_until bits_after_last_byte digits
+stopped_i2c = refl
+
+-- ten bits after a start: a byte with its acknowledge, and one more
+started_i2c : remarks (capture 30 (wire (codes "scl") (from 0 One ∷ from 3 Zero ∷ from 4 One ∷ from 5 Zero ∷ from 6 One
+    ∷ from 7 Zero ∷ from 8 One ∷ from 9 Zero ∷ from 10 One ∷ from 11 Zero ∷ from 12 One ∷ from 13 Zero ∷ from 14 One
+    ∷ from 15 Zero ∷ from 16 One ∷ from 17 Zero ∷ from 18 One ∷ from 19 Zero ∷ from 20 One ∷ from 21 Zero ∷ from 22 One
+    ∷ []) ∷ wire (codes "sda") (from 0 One ∷ from 2 Zero ∷ []) ∷ [])) (commands.I2c 0 1)
+    ≡ codes "i2c: bits after the last byte, which are not decoded: 1" ∷ []
+unfolding remarks runs_begun value_from bus_events bits_until bits_after_last_byte digits
+started_i2c = refl

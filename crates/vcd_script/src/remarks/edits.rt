@@ -1,9 +1,11 @@
 //! The remarks on edits.
 
-ghost use Rattle.std.specs.Prelude.{◌≡◌, ◌++◌, [], pos, ◌+ℤ◌, int_lt, OnOk, is_some};
+ghost use Rattle.std.specs.Prelude.{◌≡◌, ◌++◌, ◌∷◌, [], pos, ◌+ℤ◌, int_lt, OnOk, is_some};
 ghost use Rattle.std.specs.Prelude.{if◌then◌else◌};
 ghost use Rattle.std.specs.List.{count_by};
 ghost use Rattle.vcd_core.specs.CaptureContents.{contents};
+ghost use Rattle.vcd_core.specs.Contents.{signal_at};
+ghost use Rattle.vcd_core.specs.Value.{all_x};
 ghost use Rattle.vcd_edit.specs.EditFaults.{edit_fault};
 ghost use Rattle.vcd_edit.specs.declared.edit.Edit.TheVariants as edits;
 ghost use Rattle.vcd_script.specs.Remarks as spec;
@@ -11,11 +13,11 @@ ghost use Rattle.vcd_script.specs.Remarks.{remarks_text};
 ghost use Rattle.vcd_script.specs.inside.remarks.Parts as inside;
 
 use crate::remarks::appending::{append_count_remark, append_remark_head};
-use crate::remarks::pulses::{Pulses, pulses_in};
+use crate::remarks::pulses::{Spans, delays_in, pulses_in, short_runs_in};
 use crate::remarks::runs::changes_at;
 use crate::replies::MemoryResult;
 use crate::replies::appending::{append_bytes, append_decimal};
-use vcd_core::{Capture, Change};
+use vcd_core::{Bit, Capture, Change, Value};
 use vcd_edit::{Edit, check};
 
 /// Appends the remarks on an edit; none if it is refused.
@@ -47,20 +49,20 @@ fn append_accepted(
 {
     match *edit {
         Edit::Deglitch { signal, ticks } => {
-            append_deglitch_remark(text, capture, number, signal, ticks)
+            append_deglitch_remarks(text, capture, number, signal, ticks)
         }
         Edit::Shift { signal, by } => append_shift_remarks(text, capture, number, signal, by),
+        Edit::Cut { from, .. } => append_cut_remark(text, number, from),
         Edit::Rename { .. }
         | Edit::Remove { .. }
         | Edit::Invert { .. }
-        | Edit::Cut { .. }
         | Edit::Force { .. }
         | Edit::Derive { .. } => Ok(()),
     }
 }
 
-/// Appends the remark on a `deglitch`.
-fn append_deglitch_remark(
+/// Appends the remarks on a `deglitch`.
+fn append_deglitch_remarks(
     text: &mut Vec<u8>,
     capture: &Capture,
     number: u64,
@@ -71,8 +73,35 @@ fn append_deglitch_remark(
         (spec.edit_remarks (edits.Deglitch signal ticks) (contents capture.now))) }
 {
     let changes = changes_at(capture, signal);
+    let x = x_value_at(capture, signal);
     let end = capture.end();
-    let pulses = pulses_in(changes, end, ticks);
+    append_pulses_remark(text, number, pulses_in(changes, end, ticks))?;
+    append_delays_remark(text, number, delays_in(changes, &x, end, ticks))?;
+    let short = short_runs_in(changes, end, ticks);
+    append_count_remark(
+        text,
+        number,
+        b"deglitch: short runs at tick 0 or the end, which stay: ",
+        short,
+    )?;
+    Ok(())
+}
+
+/// The value of the signal at a position before its changes: all x.
+fn x_value_at(capture: &Capture, signal: usize) -> Value
+    ensures { result ≡ all_x (signal_at (contents capture.now) signal).width }
+{
+    match capture.signals().get(signal) {
+        Some(found) => Value::filled(found.wave.width(), Bit::X),
+        None => Value::filled(1, Bit::X),
+    }
+}
+
+/// Appends the remark on pulses.
+fn append_pulses_remark(text: &mut Vec<u8>, number: u64, pulses: Spans) -> MemoryResult<()>
+    ensures { OnOk result (text.new.items
+        ≡ text.old.items ++ remarks_text number (inside.pulses_text pulses ∷ [])) }
+{
     append_remark_head(text, number)?;
     append_pulses(text, pulses)?;
     append_bytes(text, b"\n")?;
@@ -80,7 +109,7 @@ fn append_deglitch_remark(
 }
 
 /// Appends how many pulses there are, and how long the longest is.
-fn append_pulses(text: &mut Vec<u8>, pulses: Pulses) -> MemoryResult<()>
+fn append_pulses(text: &mut Vec<u8>, pulses: Spans) -> MemoryResult<()>
     ensures { OnOk result (text.new.items ≡ text.old.items ++ inside.pulses_text pulses) }
 {
     text.extend_from_slice(b"deglitch: pulses removed: ")?;
@@ -90,7 +119,7 @@ fn append_pulses(text: &mut Vec<u8>, pulses: Pulses) -> MemoryResult<()>
 }
 
 /// Appends how long the longest pulse is, if there is one.
-fn append_longest(text: &mut Vec<u8>, pulses: Pulses) -> MemoryResult<()>
+fn append_longest(text: &mut Vec<u8>, pulses: Spans) -> MemoryResult<()>
     ensures { OnOk result (text.new.items
         ≡ text.old.items ++ inside.longest_of pulses.count pulses.longest) }
 {
@@ -100,6 +129,41 @@ fn append_longest(text: &mut Vec<u8>, pulses: Pulses) -> MemoryResult<()>
     text.extend_from_slice(b" (ticks of the longest: ")?;
     append_decimal(text, pulses.longest)?;
     append_bytes(text, b")")
+}
+
+/// Appends the remark on edges with these delays, unless there is none.
+fn append_delays_remark(text: &mut Vec<u8>, number: u64, delays: Spans) -> MemoryResult<()>
+    ensures { OnOk result (text.new.items
+        ≡ text.old.items ++ remarks_text number
+        (inside.delays_lines delays.count delays.longest)) }
+{
+    if delays.count == 0 {
+        return Ok(());
+    }
+    append_remark_head(text, number)?;
+    append_delays(text, delays)?;
+    append_bytes(text, b"\n")?;
+    Ok(())
+}
+
+/// Appends how many edges are late, and by how much at most.
+fn append_delays(text: &mut Vec<u8>, delays: Spans) -> MemoryResult<()>
+    ensures { OnOk result (text.new.items
+        ≡ text.old.items ++ inside.delays_text delays.count delays.longest) }
+{
+    text.extend_from_slice(b"deglitch: edges right after removed pulses: ")?;
+    append_decimal(text, delays.count)?;
+    append_delay(text, delays.longest)?;
+    Ok(())
+}
+
+/// Appends by how much an edge is late at most.
+fn append_delay(text: &mut Vec<u8>, delay: u64) -> MemoryResult<()>
+    ensures { OnOk result (text.new.items ≡ text.old.items ++ spec.delay_text delay) }
+{
+    text.extend_from_slice(b" (late by at most ")?;
+    append_decimal(text, delay)?;
+    append_bytes(text, b" ticks)")
 }
 
 /// Appends the remarks on a `shift`.
@@ -147,4 +211,17 @@ fn moved_tick(change: &Change, by: i64) -> i128
     ensures { result ≡ pos change.now.tick +ℤ by }
 {
     i128::from(change.tick) + i128::from(by)
+}
+
+/// Appends the remark on a `cut` from this tick on, unless that is tick 0.
+fn append_cut_remark(text: &mut Vec<u8>, number: u64, from: u64) -> MemoryResult<()>
+    ensures { OnOk result
+        (text.new.items ≡ text.old.items ++ remarks_text number (spec.cut_remarks from)) }
+{
+    append_count_remark(
+        text,
+        number,
+        b"cut: the capture is joined, so what is decoded from there on may be wrong: at tick ",
+        from,
+    )
 }

@@ -11,7 +11,7 @@ ghost use Rattle.vcd_script.specs.inside.remarks.Parts.{is_lost_run, lost_head, 
 ghost use Rattle.vcd_script.specs.inside.remarks.Parts.{lost_end};
 
 use crate::remarks::appending::{append_more, append_place, append_remark_head};
-use crate::remarks::runs::{letter_of, tick_before};
+use crate::remarks::runs::{begins_at_zero, letter_of, tick_before};
 use crate::replies::MemoryResult;
 use crate::replies::appending::append_bytes;
 use vcd_core::{Bit, Change};
@@ -66,16 +66,6 @@ fn append_first_run(
     }
     append_numbered_place(text, line, 0, 0, tick_before(changes, end))?;
     Ok(1)
-}
-
-/// Whether the first change is at tick 0.
-fn begins_at_zero(changes: &[Change]) -> bool
-    ensures { result ≡ inside.begins_at_zero changes.now }
-{
-    match changes {
-        [first, ..] => first.tick == 0,
-        [] => false,
-    }
 }
 
 /// Appends the places among the runs that changes begin, after `count` places. Returns how many

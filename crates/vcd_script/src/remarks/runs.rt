@@ -5,6 +5,7 @@ ghost use Rattle.vcd_core.specs.Contents.{signal_at};
 ghost use Rattle.vcd_core.specs.CaptureContents.{contents};
 ghost use Rattle.vcd_core.specs.Value.{letter_at};
 ghost use Rattle.vcd_script.specs.Remarks as spec;
+ghost use Rattle.vcd_script.specs.inside.remarks.Parts as inside;
 
 use vcd_core::{Bit, Capture, Change};
 
@@ -15,6 +16,16 @@ pub fn changes_at(capture: &Capture, signal: usize) -> &[Change]
     match capture.signals().get(signal) {
         Some(found) => found.wave.changes(),
         None => &[],
+    }
+}
+
+/// Whether the first change is at tick 0.
+pub fn begins_at_zero(changes: &[Change]) -> bool
+    ensures { result ≡ inside.begins_at_zero changes.now }
+{
+    match changes {
+        [first, ..] => first.tick == 0,
+        [] => false,
     }
 }
 

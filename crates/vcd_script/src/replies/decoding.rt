@@ -89,7 +89,7 @@ fn nibbles(bits: u64) -> u64
 }
 
 /// The wave of a signal of one bit.
-fn scalar_wave(capture: &Capture, signal: usize) -> &Wave
+pub fn scalar_wave(capture: &Capture, signal: usize) -> &Wave
     requires sound { IsSound (contents capture.now) }
     requires one_bit_signal { IsScalarAt (contents capture.now) signal }
     ensures one_bit { result.now.width ≡ 1 }

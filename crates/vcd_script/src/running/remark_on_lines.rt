@@ -3,6 +3,7 @@
 ghost use Rattle.std.specs.Prelude.{◌≡◌, ◌<◌, ◌^◌, ℕ, false, true, Ok, length, OnOk, IfErr};
 ghost use Rattle.std.specs.Io.KnownBytes.{Appends};
 ghost use Rattle.vcd_core.specs.CaptureContents.{contents};
+ghost use Rattle.vcd_core.specs.Sound.{IsSound};
 ghost use Rattle.vcd_core.specs.Devices.{device_end, HasPrefix};
 ghost use Rattle.vcd_journal.specs.Machine.{step_outcome};
 ghost use Rattle.vcd_script.specs.CommandSignals.{HasCommandSignals};
@@ -107,6 +108,7 @@ fn write_remarks<W: Sink>(
     writer: &mut W,
 ) -> Result<(), RemarkError>
     requires ready { W.has_failed writer.old ≡ false }
+    requires sound { IsSound (contents capture.now) }
     requires signals { HasCommandSignals (contents capture.now) command.now }
     ensures remarks { OnOk result (Appends (W.taken writer.old) (W.taken writer.new)
         (remarks_text number (remarks (contents capture.now) command.now))) }

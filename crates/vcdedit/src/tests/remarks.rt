@@ -1,5 +1,8 @@
 //! What there is to say of a line beyond its reply, by `remarks_on`.
 
+ghost use Rattle.vcd_core.specs.CaptureContents.{contents};
+ghost use Rattle.vcd_core.specs.Sound.{IsSound};
+
 use crate::parse_line;
 use crate::tests::notation::capture_text;
 use std::alloc::Global;
@@ -9,14 +12,22 @@ use vcd_core::{Capture, FromRead};
 use vcd_script::remarks_on;
 use vcd_text::read;
 
-/// Lines on a capture of two wires and one of four bits, each with its remarks, which ` / `
-/// separates. `top.a` is x up to the tick 1; `top.b` has six places with x, and z at 30.
+/// Lines on a capture of four wires and one of four bits, each with its remarks, which ` / `
+/// separates. `top.a` is x up to the tick 1, and rises from 0 at 5, 9 and 15; `top.b` has six
+/// places with x, and z at 30; `top.c` is 1 for 20 ticks.
 const LINES: &str = "\
 deglitch top.a 1 => deglitch: pulses removed: 0
 deglitch top.a 2 => deglitch: pulses removed: 1 (ticks of the longest: 1)
-deglitch top.a 3 => deglitch: pulses removed: 3 (ticks of the longest: 2)
-deglitch top.a 100 => deglitch: pulses removed: 5 (ticks of the longest: 5)
-deglitch top.v 30 => deglitch: pulses removed: 1 (ticks of the longest: 15)
+deglitch top.a 3 => deglitch: pulses removed: 3 (ticks of the longest: 2) \
+/ deglitch: short runs at tick 0 or the end, which stay: 1
+deglitch top.a 100 => deglitch: pulses removed: 5 (ticks of the longest: 5) \
+/ deglitch: edges right after removed pulses: 1 (late by at most 13 ticks) \
+/ deglitch: short runs at tick 0 or the end, which stay: 2
+deglitch top.b 4 => deglitch: pulses removed: 11 (ticks of the longest: 3) \
+/ deglitch: short runs at tick 0 or the end, which stay: 1
+deglitch top.v 30 => deglitch: pulses removed: 1 (ticks of the longest: 15) \
+/ deglitch: edges right after removed pulses: 1 (late by at most 15 ticks) \
+/ deglitch: short runs at tick 0 or the end, which stay: 2
 deglitch top.a 0 =>
 shift top.a 25 =>
 shift top.a 26 => shift: changes moved past the end: 1
@@ -28,16 +39,34 @@ invert top.a =>
 cut 9 4 =>
 undo =>
 changes top.b =>
-uart top.a 10 8 none 1 => uart: the line is x or z at 0-1, 9: edges and bits there are lost
+uart top.a 10 8 none 1 => uart: the line is x or z at 0-1, 9: edges and bits there are lost \
+/ uart: the line is not idle for a frame from tick 0 on: if one began before, \
+bytes up to the first pause may be wrong
+uart top.c 2 8 none 1 =>
+uart top.c 21/10 8 none 1 =>
+uart top.c 22/10 8 none 1 => uart: the line is not idle for a frame from tick 0 on: if one began \
+before, bytes up to the first pause may be wrong
 uart top.b 10 8 none 1 => uart: the line is x or z at 2, 4, 6, 8, 11-13, and 2 more: \
 edges and bits there are lost / uart: the line never falls from 1 to 0: no frame begins
 spi top.b - top.a - 0 8 msb => spi: CLK is x or z at 2, 4, 6, 8, 11-13, and 2 more: \
-edges and bits there are lost / spi: MISO is x or z at 0-1, 9: edges and bits there are lost
+edges and bits there are lost / spi: MISO is x or z at 0-1, 9: edges and bits there are lost \
+/ spi: without CS words are counted from tick 0: if one began before, all may be wrong
+spi top.c - - top.d 0 8 msb => spi: CS is 0 at tick 0: words are counted from there, and until CS \
+is 1 they may be wrong
+spi top.d - - top.c 0 8 msb =>
+spi top.d - - top.a 0 8 msb => spi: CS is x or z at 0-1, 9: edges and bits there are lost
 i2c top.a top.b => i2c: SCL is x at 0-1: edges and bits there are lost \
-/ i2c: SDA is x at 2, 4, 6, 8, 11-13, and 1 more: edges and bits there are lost";
+/ i2c: SDA is x at 2, 4, 6, 8, 11-13, and 1 more: edges and bits there are lost \
+/ i2c: bits before the first start or stop, which are not decoded: 3
+i2c top.a top.d => i2c: SCL is x at 0-1: edges and bits there are lost \
+/ i2c: bits before the first start or stop, which are not decoded: 1 \
+/ i2c: bits after the last byte, which are not decoded: 2
+i2c top.c top.d =>";
 
 /// Compares the remarks on a line with those of a row.
-fn check_remarks(rt: &impl Abort, alloc: Global, capture: &Capture, row: &str) -> Result<(), Fail> {
+fn check_remarks(rt: &impl Abort, alloc: Global, capture: &Capture, row: &str) -> Result<(), Fail>
+    requires { IsSound (contents capture.now) }
+{
     let (line, wanted) = row.split_once(" =>").ok_or("no remarks")?;
     let Ok(command) = parse_line(line.as_bytes(), capture) else {
         return Err(Fail::from("no command"));
@@ -59,7 +88,7 @@ fn remarks_on_lines(rt: HostRuntime) -> Result<(), Fail> {
         rt.alloc(),
         "[a:1 0@2 1@5 0@7 z@9 0@10 1@15 \
          | b:1 1@0 x@2 1@3 x@4 1@5 x@6 1@7 x@8 1@9 x@11 1@14 x@20 1@21 z@30 1@31 \
-         | v:4 0@5 1@20; end 40]",
+         | v:4 0@5 1@20 | c:1 1@0 0@20 | d:1 0@0 1@6; end 40]",
     )?;
     let loaded = read(rt.alloc(), &mut FromRead::new(file.as_bytes()))?;
     for row in LINES.lines() {

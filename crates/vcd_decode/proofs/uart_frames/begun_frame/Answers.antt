@@ -12,7 +12,7 @@ returns-then-ticks_left-first c =
 pub returns-then-not-is_zero : goal.returns-then-not-is_zero
 returns-then-not-is_zero c =
     let first : c.letter_near.result ≡ line_of c.args.wave.now (sample_tick c.args.setup.now c.args.start 0) =
-    c.letter_near.ensures ∙ ap (λ n. line_of c.args.wave.now (c.args.start + n)) c.sample_offset-first.ensures in
+    c.letter_near.ensures ∙ ap (λ n. line_of c.args.wave.now (c.args.start + n)) c.sample_offset-first.ensures.ticks in
     let high : is_zero (line_of c.args.wave.now (sample_tick c.args.setup.now c.args.start 0)) ≡ false =
     ap is_zero (sym first) ∙ sym c.is_zero.ensures ∙ c.if-not-is_zero.true in
     sym (glitch (line_of c.args.wave.now) c.args.end c.args.setup.now c.args.start (omega arith) high)
@@ -20,18 +20,18 @@ returns-then-not-is_zero c =
 pub returns-then-ticks_left-last : goal.returns-then-ticks_left-last
 returns-then-ticks_left-last c =
     let first : c.letter_near.result ≡ line_of c.args.wave.now (sample_tick c.args.setup.now c.args.start 0) =
-    c.letter_near.ensures ∙ ap (λ n. line_of c.args.wave.now (c.args.start + n)) c.sample_offset-first.ensures in
+    c.letter_near.ensures ∙ ap (λ n. line_of c.args.wave.now (c.args.start + n)) c.sample_offset-first.ensures.ticks in
     let low : is_zero (line_of c.args.wave.now (sample_tick c.args.setup.now c.args.start 0)) ≡ true =
     ap is_zero (sym first) ∙ sym c.is_zero.ensures ∙ c.if-not-is_zero.false in
-    let last = c.sample_offset-last.ensures ∙ ap (sample_offset c.args.setup.now) c.last_bit.ensures.count in
+    let last = c.sample_offset-last.ensures.ticks ∙ ap (sample_offset c.args.setup.now) c.last_bit.ensures.count in
     sym (cut_later (line_of c.args.wave.now) c.args.end c.args.setup.now c.args.start (omega arith) low (omega arith))
 
 pub returns : goal.returns
 returns c =
     let first : c.letter_near.result ≡ line_of c.args.wave.now (sample_tick c.args.setup.now c.args.start 0) =
-    c.letter_near.ensures ∙ ap (λ n. line_of c.args.wave.now (c.args.start + n)) c.sample_offset-first.ensures in
+    c.letter_near.ensures ∙ ap (λ n. line_of c.args.wave.now (c.args.start + n)) c.sample_offset-first.ensures.ticks in
     let low : is_zero (line_of c.args.wave.now (sample_tick c.args.setup.now c.args.start 0)) ≡ true =
     ap is_zero (sym first) ∙ sym c.is_zero.ensures ∙ c.if-not-is_zero.false in
-    let last = c.sample_offset-last.ensures ∙ ap (sample_offset c.args.setup.now) c.last_bit.ensures.count in
+    let last = c.sample_offset-last.ensures.ticks ∙ ap (sample_offset c.args.setup.now) c.last_bit.ensures.count in
     (λ i. Some (annotation c.args.start (c.args.start + last i) (c.frame_kind_at-kind.ensures i)))
     ∙ sym (whole (line_of c.args.wave.now) c.args.end c.args.setup.now c.args.start (omega arith) low (omega arith))

@@ -1,17 +1,25 @@
 -- The remarks as the code appends their parts.
-use Rattle.std.specs.Prelude.{ℕ, zero, ◌+◌, ◌-◌, ◌==◌, nat_lt, max, Bool, false}
+use Rattle.std.specs.Prelude.{ℕ, zero, ◌+◌, ◌-◌, ◌==◌, ◌&&◌, nat_lt, max, Bool, false, not}
 use Rattle.std.specs.Prelude.{if◌then◌else◌, Option, Some, None, List, [], ◌∷◌, ◌++◌, codes}
+use Rattle.std.specs.List.{filter}
 use Rattle.std.specs.Fmt.{decimal}
+use Rattle.vcd_core.specs.declared.bit.Bit.{Bit}
 use Rattle.vcd_core.specs.declared.wave.Change.{Change}
-use Rattle.vcd_core.specs.Value.{letter_at}
-use Rattle.vcd_script.specs.declared.remarks.pulses.Pulses.{Pulses}
+use Rattle.vcd_core.specs.Value.{letter_at, same_letters}
+use Rattle.vcd_script.specs.declared.remarks.pulses.Spans.{Spans}
 use Rattle.vcd_script.specs.declared.remarks.places.DecoderLine.{DecoderLine}
-use Rattle.vcd_script.specs.Remarks.{ValueRun, is_pulse, ticks_of_run, is_lost, lost_letters}
+use Rattle.vcd_script.specs.Remarks.{ValueRun, tick_before, runs_begun, is_pulse, ticks_of_run}
+use Rattle.vcd_script.specs.Remarks.{edge_delays, stays_short, delay_text, is_lost, lost_letters}
 use Rattle.vcd_script.specs.Remarks.{place_text, more_text}
 
 -- the number of a line, before a remark
 abbrev pub remark_head : ℕ → List ℕ
 remark_head number = codes "line " ++ decimal number ++ codes ": "
+
+-- whether a change at tick 0 comes first
+abbrev pub begins_at_zero : List Change → Bool
+begins_at_zero [] = false
+begins_at_zero (c ∷ cs) = c.tick == 0
 
 -- ---- pulses
 
@@ -19,10 +27,10 @@ remark_head number = codes "line " ++ decimal number ++ codes ": "
 abbrev pub pulse_ticks : (ticks end : ℕ) → ValueRun → Option ℕ
 pulse_ticks ticks end r = if is_pulse ticks end r then Some (ticks_of_run r) else None
 
--- the pulses with one more, if there is one
-abbrev pub with_pulse : Pulses → Option ℕ → Pulses
-with_pulse found None = found
-with_pulse found (Some ticks) =
+-- the spans with one more, if there is one
+abbrev pub with_span : Spans → Option ℕ → Spans
+with_span found None = found
+with_span found (Some ticks) =
     record { count = found.count + 1; longest = max found.longest ticks }
 
 -- how long the longest of this many pulses is, if there is one
@@ -31,16 +39,41 @@ longest_of zero longest = []
 longest_of count longest = codes " (ticks of the longest: " ++ decimal longest ++ codes ")"
 
 -- the remark on pulses
-abbrev pub pulses_text : Pulses → List ℕ
+abbrev pub pulses_text : Spans → List ℕ
 pulses_text found = codes "deglitch: pulses removed: " ++ decimal found.count
     ++ longest_of found.count found.longest
 
--- ---- places
+-- a run of which the last tick and the value count
+abbrev pub run_until : (last : ℕ) → (value : List Bit) → ValueRun
+run_until last value = record { first = 0; last = last; value = value }
 
--- whether a change at tick 0 comes first
-abbrev pub begins_at_zero : List Change → Bool
-begins_at_zero [] = false
-begins_at_zero (c ∷ cs) = c.tick == 0
+-- by how many ticks the edge to a change is late after a run that stays, if it is
+abbrev pub delay_of : (before : ValueRun) → Change → Option ℕ
+delay_of before c =
+    if not (same_letters c.value before.value) && nat_lt 0 (c.tick - before.last - 1)
+    then Some (c.tick - before.last - 1) else None
+
+-- the delays of the edges at these changes, after a run that stays
+abbrev pub delays_after : (ticks end : ℕ) → (before : ValueRun) → List Change → List ℕ
+delays_after ticks end before cs = filter (nat_lt 0)
+    (edge_delays (before ∷ filter (λ r. not (is_pulse ticks end r)) (runs_begun end cs)))
+
+-- what is said of this many edges that are late
+abbrev pub delays_text : (count longest : ℕ) → List ℕ
+delays_text count longest = codes "deglitch: edges right after removed pulses: "
+    ++ decimal count ++ delay_text longest
+
+-- the remark on this many; none if there is none
+abbrev pub delays_lines : (count longest : ℕ) → List (List ℕ)
+delays_lines zero longest = []
+delays_lines count longest = delays_text count longest ∷ []
+
+-- whether x before the first change is a run that stays, though it has fewer ticks
+abbrev pub x_stays_short : (ticks end : ℕ) → List Change → Bool
+x_stays_short ticks end cs =
+    not (begins_at_zero cs) && stays_short ticks end (run_until (tick_before end cs) [])
+
+-- ---- places
 
 -- whether a line is lost in a run
 abbrev pub is_lost_run : (z_is_one : Bool) → ValueRun → Bool

@@ -7,3 +7,6 @@ pub returns-in-Shift : goal.returns-in-Shift
 returns-in-Shift c =
     let fits : SFits w64 c.in-Shift.by = search rules in
     rw (c.in-Shift.is) (rw (to_z-of_z w64 c.in-Shift.by fits) at c.append_shift_remarks.ensures)
+
+pub returns-in-Deglitch : goal.returns-in-Deglitch
+returns-in-Deglitch c = rw (c.in-Deglitch.is) c.append_deglitch_remarks.ensures

@@ -1,6 +1,6 @@
 use Rattle.std.proofs.Common.{◌+◌, ap, arith}
 use Rattle.std.proofs.lemmas.List.{take_rest}
-use Rattle.vcd_script.specs.declared.remarks.pulses.Pulses.{Pulses}
+use Rattle.vcd_script.specs.declared.remarks.pulses.Spans.{Spans}
 use Rattle.vcd_script.proofs.remarks.PulsesFound.{count_goes_on, longest_goes_on, few_more, count_done, longest_done}
 use Rattle.vcd_script.proofs.remarks.pulses.pulses_in.Goals as goal
 
@@ -12,14 +12,14 @@ loop-i-preserved c =
       few = omega (
         arith,
         few_more l.found c.pulse_ticks-pulse.result,
-        ap (λ (p : Pulses). p.count) c.with_pulse-found.ensures,
+        ap (λ (p : Spans). p.count) c.with_span-found.ensures,
       );
       count = count_goes_on c.args.ticks c.args.end cs l.i c.index-changes-i.result _ c.loop-i-test.true
-          c.index-changes-i.is (take_rest cs (l.i + 1)) l.found c.with_pulse-found.result c.pulse_ticks-pulse.result
-          c.pulse_ticks-pulse.ensures c.with_pulse-found.ensures _ l.invariant.count;
+          c.index-changes-i.is (take_rest cs (l.i + 1)) l.found c.with_span-found.result c.pulse_ticks-pulse.result
+          c.pulse_ticks-pulse.ensures c.with_span-found.ensures _ l.invariant.count;
       longest = longest_goes_on c.args.ticks c.args.end cs l.i c.index-changes-i.result _ c.loop-i-test.true
-          c.index-changes-i.is (take_rest cs (l.i + 1)) l.found c.with_pulse-found.result c.pulse_ticks-pulse.result
-          c.pulse_ticks-pulse.ensures c.with_pulse-found.ensures _ l.invariant.longest;
+          c.index-changes-i.is (take_rest cs (l.i + 1)) l.found c.with_span-found.result c.pulse_ticks-pulse.result
+          c.pulse_ticks-pulse.ensures c.with_span-found.ensures _ l.invariant.longest;
     }
 
 pub returns-clause-count : goal.returns-clause-count

@@ -1,6 +1,6 @@
 use Rattle.std.proofs.Common.{sym, ◌∙◌, arith}
 use Rattle.vcd_script.proofs.remarks.FallsLeft.{it_falls, it_does_not, it_never_falls}
-use Rattle.vcd_script.proofs.remarks.decoders.has_fall.Goals as goal
+use Rattle.vcd_script.proofs.remarks.beginnings.has_fall.Goals as goal
 
 pub returns-then-is_fall : goal.returns-then-is_fall
 returns-then-is_fall c =
