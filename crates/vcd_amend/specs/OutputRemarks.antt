@@ -1,6 +1,7 @@
 -- What there is to say of an output beyond the replies: of variables that share a code, which are
--- edited or removed alone, and which events cuts leave out. The project's own.
-use Rattle.std.specs.Prelude.{ℕ, Bool, false, not, ◌-◌, ◌==◌, ◌&&◌, nat_le, if◌then◌else◌, List, []}
+-- edited or removed alone, which are removed, and which events cuts leave out. The project's own.
+use Rattle.std.specs.Prelude.{ℕ, Bool, true, false, not, ◌-◌, ◌==◌, ◌&&◌, nat_le, List, []}
+use Rattle.std.specs.Prelude.{if◌then◌else◌}
 use Rattle.std.specs.Prelude.{◌∷◌, ◌++◌, map, take, length, is_some, bytes_eq, codes, All, IsTrue}
 use Rattle.std.specs.List.{filter, list_any, join_by}
 use Rattle.vcd_core.specs.declared.capture.TheConstants.{SIGNAL_LIMIT}
@@ -41,6 +42,19 @@ removed_apart a ds =
     flat_map_along (λ before d. if is_removed_apart (amended_variables a ds) (fate_of a before d) d
     then d ∷ [] else []) [] ds
 
+-- ---- removed variables
+
+-- whether a variable is removed by its fate
+abbrev pub is_removed_by : Fate → VariableDeclaration → Bool
+is_removed_by is_removed d = true
+is_removed_by stays d = false
+is_removed_by (is_changed words code) d = false
+
+-- the variables that are removed
+abbrev pub removed_variables : Amendment → List VariableDeclaration → List VariableDeclaration
+removed_variables a ds =
+    flat_map_along (λ before d. if is_removed_by (fate_of a before d) d then d ∷ [] else []) [] ds
+
 -- ---- events
 
 -- whether a variable is an event
@@ -76,16 +90,22 @@ names_remark head names =
 -- the remark on variables that are edited, but not as another of their code
 abbrev pub edited_remark : (names : List (List ℕ)) → List ℕ
 edited_remark names =
-    names_remark (codes "edited, but not as another variable of the same code") names
+    names_remark (codes "edited, unlike another variable of the same code") names
 
 -- the remark on variables that are removed, while another has their code
 abbrev pub removed_remark : (names : List (List ℕ)) → List ℕ
 removed_remark names =
     names_remark (codes "removed, but another variable of the same code stays") names
 
+-- the remark on variables that are removed: what is no declaration and no change of theirs stays
+abbrev pub traces_remark : (names : List (List ℕ)) → List ℕ
+traces_remark names = names_remark
+    (codes "removed, but scopes, comments, marks, time stamps and namesakes may tell of them") names
+
 -- the remark on events that cuts leave out
 abbrev pub events_remark : (names : List (List ℕ)) → List ℕ
-events_remark names = names_remark (codes "events at the ticks that are cut are left out") names
+events_remark names =
+    names_remark (codes "events at the ticks that are cut, if any, are left out") names
 
 -- ---- all remarks
 
@@ -93,6 +113,7 @@ events_remark names = names_remark (codes "events at the ticks that are cut are 
 abbrev pub output_remarks : Amendment → List VariableDeclaration → (is_cut : Bool) → List ℕ
 output_remarks a ds is_cut = edited_remark (map declared_name (edited_apart a ds))
     ++ removed_remark (map declared_name (removed_apart a ds))
+    ++ traces_remark (map declared_name (removed_variables a ds))
     ++ (if is_cut then events_remark (map declared_name (events_left_out ds)) else [])
 
 -- the remarks on the output of a run of lines on what a file of these pieces means

@@ -18,15 +18,15 @@ use crate::cut_ticks::CutTicks;
 use crate::declarations::DeclaredVariable;
 use events::event_names;
 use fated_variables::fated_variables;
-use names::append_names_remark;
+pub use names::append_names_remark;
 use std::alloc::Global;
-use variables::{edited_names, removed_names, used_codes};
+use variables::{edited_names, removed_apart_names, removed_names, used_codes};
 use vcd_core::{NoMemory, Word};
 
 /// The remarks on the output of a run, by the variables that the file declares, what is done to it,
-/// and the cuts in force: which variables are edited, but not as another variable of the same code,
-/// which are removed, but another variable of the same code stays, and which events the cuts leave
-/// out. Each is a line with at most five names.
+/// and the cuts in force: which variables are edited, unlike another variable of the same code,
+/// which are removed, but another variable of the same code stays, which are removed at all, and
+/// which events the cuts leave out. Each is a line with at most five names.
 ///
 /// It goes over the variables once for each kind of remark, and looks up a code for each. It holds
 /// a target for each code, a fate for each variable, and the names of a remark.
@@ -46,7 +46,7 @@ pub fn output_remarks(
     Ok(text)
 }
 
-/// Appends the remarks on variables that share a code.
+/// Appends the remarks on variables that share a code, and on those that are removed.
 fn append_code_remarks(
     text: &mut Vec<u8>,
     alloc: Global,
@@ -57,14 +57,19 @@ fn append_code_remarks(
         ++ spec.edited_remark (map declared_name
         (spec.edited_apart (amendment_contents amendment.now) (declarations_of declared.now)))
         ++ spec.removed_remark (map declared_name
-        (spec.removed_apart (amendment_contents amendment.now) (declarations_of declared.now)))) }
+        (spec.removed_apart (amendment_contents amendment.now) (declarations_of declared.now)))
+        ++ spec.traces_remark (map declared_name
+        (spec.removed_variables (amendment_contents amendment.now)
+        (declarations_of declared.now)))) }
 {
     let fated = fated_variables(alloc, declared, amendment)?;
     let used = used_codes(alloc, fated.as_slice(), amendment.added.as_slice())?;
     let edited = edited_names(alloc, fated.as_slice())?;
-    let removed = removed_names(alloc, fated.as_slice(), &used)?;
+    let apart = removed_apart_names(alloc, fated.as_slice(), &used)?;
+    let removed = removed_names(alloc, fated.as_slice())?;
     append_edited_remark(text, edited.as_slice())?;
-    append_removed_remark(text, removed.as_slice())
+    append_removed_remark(text, apart.as_slice())?;
+    append_traces_remark(text, removed.as_slice())
 }
 
 /// Appends the remark on events, if there are cuts.
@@ -84,7 +89,7 @@ fn append_cut_remark(
     let events = event_names(alloc, declared)?;
     append_names_remark(
         text,
-        b"events at the ticks that are cut are left out",
+        b"events at the ticks that are cut, if any, are left out",
         events.as_slice(),
     )
 }
@@ -97,7 +102,7 @@ fn append_edited_remark(text: &mut Vec<u8>, names: &[Word]) -> Result<(), NoMemo
 {
     append_names_remark(
         text,
-        b"edited, but not as another variable of the same code",
+        b"edited, unlike another variable of the same code",
         names,
     )
 }
@@ -111,6 +116,19 @@ pub fn append_removed_remark(text: &mut Vec<u8>, names: &[Word]) -> Result<(), N
     append_names_remark(
         text,
         b"removed, but another variable of the same code stays",
+        names,
+    )
+}
+
+/// Appends the remark on variables of these names, which are removed: one line, or none if there is
+/// no name. It shows at most five names.
+pub fn append_traces_remark(text: &mut Vec<u8>, names: &[Word]) -> Result<(), NoMemory>
+    ensures { OnOk result
+        (text.new.items ≡ text.old.items ++ spec.traces_remark names.now) }
+{
+    append_names_remark(
+        text,
+        b"removed, but scopes, comments, marks, time stamps and namesakes may tell of them",
         names,
     )
 }

@@ -8,4 +8,5 @@ pub mod Written
 pub mod Ended
 pub mod NextVariable
 pub mod Waiting
+pub mod Comments
 pub mod StampPieces

@@ -1,3 +1,4 @@
 -- Worked cases.
 pub mod EmptyStamps
+pub mod LeftOutEvents
 pub mod StillShown

@@ -27,7 +27,7 @@ pub record IsPart (r : Request) (file text : List ℕ) (written : WrittenPart) :
   pub ticks : TickRange
   pub part : HasPart r VARIABLE_LIMIT file pieces tail ticks
   pub is : text ≡ piece_bytes (part_pieces r pieces) ++ tail
-  pub said : written ≡ written_part r (state_of_pieces VARIABLE_LIMIT pieces) ticks
+  pub said : written ≡ written_part r pieces (state_of_pieces VARIABLE_LIMIT pieces) ticks
 
 -- the file begins with declarations that are accepted, and the request is refused for them, with
 -- the first pattern that no name of theirs meets

@@ -2,6 +2,7 @@
 -- need not believe them.
 pub mod Heads
 pub mod Patterns
+pub mod ScopePaths
 pub mod Choice
 pub mod FirstValues
 pub mod CodeUses

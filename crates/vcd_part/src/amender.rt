@@ -12,7 +12,7 @@ mod changes;
 mod declarations;
 mod stamps;
 
-use crate::choice::VariableChoice;
+use crate::choice::{VariableChoice, count};
 use crate::code_uses::CodeUses;
 use crate::request::{Refusal, Request};
 use crate::window::is_up_to_first;
@@ -37,6 +37,9 @@ pub struct PartAmender<'m, 'a> {
     /// The stamp that waits until something of the part is at its tick, as the part has it; nothing
     /// if none waits.
     pub waiting: Vec<u8>,
+    /// How many comments of the declarations and other commands have passed, as far as a `u64`
+    /// goes.
+    pub comments: u64,
 }
 
 impl<'m, 'a> PartAmender<'m, 'a> {
@@ -53,6 +56,7 @@ impl<'m, 'a> PartAmender<'m, 'a> {
             refusal: None,
             tick: 0,
             waiting: Vec::new(alloc),
+            comments: 0,
         })
     }
 
@@ -140,8 +144,9 @@ impl<W: Sink> Amender<W> for PartAmender<'_, '_> {
         write_bytes(output, self.waiting.as_slice());
     }
 
-    fn pass(&mut self) {
+    fn pass(&mut self, is_comment_or_other: bool) {
         self.waiting.clear();
+        self.comments = count(self.comments, is_comment_or_other);
     }
 
     fn is_done(&self) -> bool {

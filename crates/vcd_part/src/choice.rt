@@ -1,7 +1,7 @@
 //! Which variables are kept, as they are declared.
 
 ghost use Rattle.std.specs.Prelude.{◌≡◌, ◌+◌, ◌++◌, ◌==◌, ◌&&◌, ◌∷◌, [], ℕ, List, IfOk, OnOk};
-ghost use Rattle.std.specs.Prelude.{option_map, if◌then◌else◌, not};
+ghost use Rattle.std.specs.Prelude.{option_map, if◌then◌else◌, not, bytes_eq, codes};
 ghost use Rattle.vcd_text.specs.Grammar.{VariableDeclaration, word_texts};
 ghost use Rattle.vcd_text.specs.Items.{end_word};
 ghost use Rattle.vcd_text.specs.Words.{words_of};
@@ -9,12 +9,14 @@ ghost use Rattle.vcd_part.specs.Requests.{keeps, unmet, decide};
 ghost use Rattle.vcd_part.specs.PartPieces.{bounded_count};
 ghost use Rattle.vcd_part.specs.inside.Choice.{HasNoted};
 
+use crate::code_uses::is_event;
 use crate::name_text::read_name;
+use crate::named_variable::{NamedVariable, note_name, note_named_variable};
 use crate::patterns::Patterns;
-use crate::removed::{RemovedVariable, note_removed};
 use crate::request::{Refusal, Request};
+use crate::scope_paths::ScopePaths;
 use std::alloc::Global;
-use vcd_core::{FullName, NoMemory, ScopeName, Timescale};
+use vcd_core::{FullName, NoMemory, ScopeName, Timescale, Word};
 use vcd_text::TickRange;
 
 /// The patterns of a request, with what the declarations so far say of them.
@@ -26,8 +28,14 @@ pub struct VariableChoice<'m, 'a> {
     /// How many variables are kept, of how many.
     pub kept: u64,
     pub all: u64,
-    /// The variables to remove, in the order of the file.
-    pub removed: Vec<RemovedVariable>,
+    /// The full names of the variables to remove, in the order of the file.
+    pub removed_names: Vec<Word>,
+    /// The same, with their codes.
+    pub removed: Vec<NamedVariable>,
+    /// The events that are kept, in the order of the file.
+    pub events: Vec<NamedVariable>,
+    /// The scopes of the variables.
+    pub scopes: ScopePaths,
     /// Room for a name.
     pub name: Vec<u8>,
 }
@@ -43,16 +51,21 @@ impl<'m, 'a> VariableChoice<'m, 'a> {
             remove: Patterns::new(alloc, request.remove)?,
             kept: 0,
             all: 0,
+            removed_names: Vec::new(alloc),
             removed: Vec::new(alloc),
+            events: Vec::new(alloc),
+            scopes: ScopePaths::new(alloc),
             name: Vec::new(alloc),
         })
     }
 
-    /// Notes the variable in these scopes with this code and these words of a name, after which
-    /// `$end` comes. Returns whether it is kept. It takes memory if the variable is to be removed.
+    /// Notes the variable of this kind in these scopes, with this code and these words of a name,
+    /// after which `$end` comes. Returns whether it is kept. It takes memory if the variable is to
+    /// be removed, a kept event, or the first of its scope that is kept or left out.
     pub fn note(
         &mut self,
         scopes: &[ScopeName],
+        kind: &[u8],
         code: &[u8],
         words: &[u8],
     ) -> Result<bool, NoMemory>
@@ -62,7 +75,8 @@ impl<'m, 'a> VariableChoice<'m, 'a> {
             word_texts (words_of words.now) ≡ d.words ++ end_word ∷ [] → is_kept ≡ keeps r d) }
         ensures noted { OnOk result (
             (r : Request) (declared : List VariableDeclaration) (d : VariableDeclaration) →
-            HasNoted self.old r declared → d.scopes ≡ scopes.now → d.code ≡ code.now →
+            HasNoted self.old r declared → d.scopes ≡ scopes.now → kind.now ≡ d.kind →
+            d.code ≡ code.now →
             word_texts (words_of words.now) ≡ d.words ++ end_word ∷ [] →
             HasNoted self.new r (declared ++ d ∷ [])) }
     {
@@ -70,8 +84,12 @@ impl<'m, 'a> VariableChoice<'m, 'a> {
         let name = FullName::new(scopes, self.name.as_slice(), &[]);
         let is_among_kept = self.keep.note(name, true);
         let is_removed = self.remove.note(name, false);
-        note_removed(self.alloc, &mut self.removed, is_removed, name, code)?;
+        note_name(self.alloc, &mut self.removed_names, is_removed, name)?;
+        note_named_variable(self.alloc, &mut self.removed, is_removed, name, code)?;
         let is_kept = is_kept(is_among_kept, is_removed);
+        let is_kept_event = is_kept_event(is_kept, kind);
+        note_named_variable(self.alloc, &mut self.events, is_kept_event, name, code)?;
+        self.scopes.note(scopes, is_kept)?;
         self.kept = count(self.kept, is_kept);
         self.all = self.all.saturating_add(1);
         Ok(is_kept)
@@ -121,8 +139,15 @@ fn is_kept(is_among_kept: bool, is_removed: bool) -> bool
     is_among_kept && !is_removed
 }
 
+/// Whether a variable of this kind, which is kept or not, is an event that is kept.
+fn is_kept_event(is_kept: bool, kind: &[u8]) -> bool
+    ensures { result ≡ (is_kept && bytes_eq kind.now (codes "event")) }
+{
+    is_kept && is_event(kind)
+}
+
 /// Counts one more, if it counts, as far as a `u64` goes.
-fn count(so_far: u64, counts: bool) -> u64
+pub fn count(so_far: u64, counts: bool) -> u64
     ensures { result ≡ bounded_count (if counts then so_far + 1 else so_far) }
 {
     if counts {

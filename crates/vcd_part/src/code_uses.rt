@@ -7,7 +7,8 @@ ghost use Rattle.vcd_text.specs.Pieces.{Piece};
 ghost use Rattle.std.specs.Prelude.{length, IfOk, if◌then◌else◌, is_some, not, ◌||◌, ◌&&◌, Some};
 ghost use Rattle.std.specs.Prelude.{true, false};
 ghost use Rattle.vcd_text.specs.EmittedText.{Emits, EmitsMore};
-ghost use Rattle.vcd_part.specs.PartPieces.{first_pieces};
+ghost use Rattle.vcd_core.specs.Word.{is_one_of};
+ghost use Rattle.vcd_part.specs.PartPieces.{first_pieces, lasting_codes};
 ghost use Rattle.vcd_text.specs.Pieces.{piece_bytes};
 ghost use Rattle.vcd_part.specs.declared.request.Request.{Request};
 ghost use Rattle.vcd_part.specs.Requests.{keeps};
@@ -67,6 +68,14 @@ impl CodeUses {
             → result ≡ use_of r declared code.now }
     {
         self.uses.get(code)
+    }
+
+    /// Whether values of a code last: a variable that is kept has it and is no event.
+    pub fn lasts(&self, code: &[u8]) -> bool
+        ensures { (r : Request) (declared : List VariableDeclaration) → AreUses self.now r declared
+            → result ≡ is_one_of (lasting_codes r declared) code.now }
+    {
+        self.get(code).index.is_some()
     }
 
     /// Notes one more variable, which is kept or not.
@@ -171,7 +180,7 @@ fn means_nothing(found: CodeUse, is_text: bool) -> bool
 }
 
 /// Whether variables of this kind are events, whose changes do not last.
-fn is_event(kind: &[u8]) -> bool
+pub fn is_event(kind: &[u8]) -> bool
     ensures { result ≡ bytes_eq kind.now (codes "event") }
 {
     kind == b"event".as_slice()

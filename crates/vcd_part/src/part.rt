@@ -54,9 +54,11 @@ impl From<CopyError> for PartError<'_> {
 /// error what the writer took is of no use. A fault in the chunk in which the declarations end
 /// comes before a refusal.
 ///
-/// Time: one pass over the file. Each name is compared with each pattern once. Memory: as of
-/// `copy`, some bytes for each code, its last change up to the first tick of the window, a stamp,
-/// and the full names and codes of the variables to remove.
+/// Time: one pass over the file. Each name is compared with each pattern once, and the path of its
+/// scopes looked up. Memory: as of `copy`, some bytes for each code, its last change up to the
+/// first tick of the window, a stamp, the codes and twice the full names of the variables to
+/// remove, the codes and full names of the kept events, and the path of each scope that has
+/// variables, at most three times.
 pub fn write_part<'a, R: Source, W: Sink>(
     alloc: Global,
     reader: &mut R,

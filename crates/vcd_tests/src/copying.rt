@@ -113,7 +113,7 @@ impl<W: Sink> Amender<W> for Exchanges {
         write_bytes(output, b",");
     }
 
-    fn pass(&mut self) {}
+    fn pass(&mut self, _is_comment_or_other: bool) {}
 
     fn is_done(&self) -> bool {
         false
@@ -321,7 +321,7 @@ impl<W: Sink> Amender<W> for UpToChanges {
 
     fn write_before(&self, _output: &mut Output<W>) {}
 
-    fn pass(&mut self) {}
+    fn pass(&mut self, _is_comment_or_other: bool) {}
 
     fn is_done(&self) -> bool {
         self.is_done

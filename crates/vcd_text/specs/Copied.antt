@@ -5,10 +5,11 @@ use Rattle.std.specs.Prelude.{length, IsFalse}
 use Rattle.std.specs.List.{flat_map}
 use Rattle.std.specs.Prelude.{Option, Some, None, IsTrue}
 use Rattle.vcd_core.specs.Decimal.{number_of}
+use Rattle.vcd_core.specs.declared.capture.HeaderKind.TheVariants.{Date, Version, Comment}
 use Rattle.vcd_core.specs.declared.capture.ScopeName.{ScopeName}
 use Rattle.vcd_text.specs.Words.{words_of}
-use Rattle.vcd_text.specs.Items.{Item, variable, end_definitions, stamp, scalar, vector}
-use Rattle.vcd_text.specs.Items.{real_or_string, spelling, spellings}
+use Rattle.vcd_text.specs.Items.{Item, entry, variable, end_definitions, stamp, scalar, vector}
+use Rattle.vcd_text.specs.Items.{real_or_string, other, spelling, spellings}
 use Rattle.vcd_text.specs.Grammar.{ParseState, initial_state, AllowsAll, word_texts}
 use Rattle.vcd_text.specs.Pieces.{Piece, IsCut, state_of_pieces}
 use Rattle.vcd_text.specs.declared.copying.amender.AmendableItem.{AmendableItem}
@@ -23,6 +24,15 @@ may_be_amended (scalar digit code) = true
 may_be_amended (vector first digits code) = true
 may_be_amended (real_or_string first text code) = true
 may_be_amended item = false
+
+-- whether an item is a comment of the declarations, or any other command: its words are free, and
+-- may say anything of the capture
+abbrev pub is_comment_or_other : Item → Bool
+is_comment_or_other (entry Date words) = false
+is_comment_or_other (entry Version words) = false
+is_comment_or_other (entry Comment words) = true
+is_comment_or_other (other word words) = true
+is_comment_or_other item = false
 
 -- what is written in the place of a piece after others that may be amended, before any other piece,
 -- and in the place of the white space after the last one

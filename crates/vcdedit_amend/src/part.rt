@@ -10,6 +10,7 @@ ghost use Rattle.vcdedit_amend.specs.PartOutcome as spec;
 use crate::amend_error::{AmendError, NO_PART_FILE, NO_SCRIPT, NOT_READ};
 use crate::capture_mark::{digest_of, head_of};
 use crate::command_line::Options;
+use crate::mark_search::{MarkSearch, Searched, tell_earlier_mark};
 use crate::near::tell_unmet;
 use crate::part_file::PartFile;
 use crate::part_remarks::remark_on_part;
@@ -94,8 +95,28 @@ fn run_opened<R: Runtime + AllocGlobal>(
             run_on_part(rt, &mut source, again, request, mark, options)
         }
         None if options.is_marked => run_on_part(rt, &mut source, again, request, mark, options),
-        None => write_output(rt, &mut source, again, request, options),
+        None => write_searched(rt, source, again, request, options),
     }
+}
+
+/// Writes the part where the options say, and tells if it has a mark of an earlier run.
+fn write_searched<R: Runtime + AllocGlobal, C: Source + Drop>(
+    rt: &R,
+    source: C,
+    again: Option<CaptureFile<'_>>,
+    request: Request<'_, '_>,
+    options: &Options<'_, '_>,
+) -> Result<Summary, AmendError>
+    requires ready { C.has_failed source ≡ false }
+    requires no_script { (options_in options.now).script ≡ None }
+    ensures { spec.IsOutcomeOfRequest (options_in options.now) request.entry result }
+{
+    let mut source = Searched::new(source, Some(MarkSearch::new()));
+    let outcome = write_output(rt, &mut source, again, request, options);
+    if outcome.is_ok() && !options.is_quiet && source.has_found_mark() {
+        tell_earlier_mark(rt);
+    }
+    outcome
 }
 
 /// Writes the part where the options say.

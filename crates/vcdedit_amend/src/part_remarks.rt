@@ -7,9 +7,9 @@ use crate::remarks::Remarks;
 use itoa::Buffer;
 use std::alloc::Global;
 use std::rt::Runtime;
-use vcd_amend::append_removed_remark;
+use vcd_amend::{append_names_remark, append_removed_remark, append_traces_remark};
 use vcd_core::{NoMemory, Word, copy_word, write_all};
-use vcd_part::{RemovedVariable, WrittenPart};
+use vcd_part::{NamedVariable, WrittenPart};
 
 /// Remarks on a part, unless the program is to be quiet. If memory runs out, it makes no remark.
 pub fn remark_on_part<R: Runtime + AllocGlobal>(rt: &R, is_quiet: bool, written: &WrittenPart) {
@@ -26,6 +26,11 @@ fn part_remarks(alloc: Global, written: &WrittenPart) -> Result<Vec<u8>, NoMemor
     append_early_end(&mut text, written)?;
     let names = names_of(alloc, written.still_shown.as_slice())?;
     append_removed_remark(&mut text, names.as_slice())?;
+    append_traces_remark(&mut text, written.removed.as_slice())?;
+    append_scopes(&mut text, written.emptied_scopes.as_slice())?;
+    append_comments(&mut text, written)?;
+    let events = names_of(alloc, written.events_left_out_at_first.as_slice())?;
+    append_first_events(&mut text, events.as_slice())?;
     Ok(text)
 }
 
@@ -41,6 +46,38 @@ fn append_early_end(text: &mut Vec<u8>, written: &WrittenPart) -> Result<(), NoM
         );
     }
     Ok(())
+}
+
+/// Appends the remark on the comments and other commands that stay.
+fn append_comments(text: &mut Vec<u8>, written: &WrittenPart) -> Result<(), NoMemory>
+    ensures { OnOk result (text.new.items ≡ text.old.items ++ spec.comments_remark written.now) }
+{
+    if written.comments > 0 {
+        return append_line_with_number(
+            text,
+            b"output: comments and other commands that stay, also from outside the window: ",
+            written.comments,
+        );
+    }
+    Ok(())
+}
+
+/// Appends the remark on the scopes that stay without a variable.
+fn append_scopes(text: &mut Vec<u8>, paths: &[Word]) -> Result<(), NoMemory>
+    ensures { OnOk result (text.new.items ≡ text.old.items ++ spec.scopes_remark paths.now) }
+{
+    append_names_remark(text, b"scopes that stay without a variable", paths)
+}
+
+/// Appends the remark on events of these names, which are left out at the first tick of the window.
+fn append_first_events(text: &mut Vec<u8>, names: &[Word]) -> Result<(), NoMemory>
+    ensures { OnOk result (text.new.items ≡ text.old.items ++ spec.first_events_remark names.now) }
+{
+    append_names_remark(
+        text,
+        b"events at the first tick of the window, if any, are left out",
+        names,
+    )
 }
 
 /// Appends a line that ends with a number.
@@ -62,7 +99,7 @@ fn append_bytes(text: &mut Vec<u8>, bytes: &[u8]) -> Result<(), NoMemory>
 }
 
 /// The full names of variables.
-fn names_of(alloc: Global, variables: &[RemovedVariable]) -> Result<Vec<Word>, NoMemory>
+fn names_of(alloc: Global, variables: &[NamedVariable]) -> Result<Vec<Word>, NoMemory>
     ensures { IfOk result (λ names. names.items ≡ map (λ v. v.name) variables.now) }
 {
     let mut names = Vec::new(alloc);

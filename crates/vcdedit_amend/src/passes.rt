@@ -8,7 +8,7 @@ ghost use Rattle.vcdedit_amend.specs.declared.amend_error.AmendError.TheVariants
 ghost use Rattle.vcd_amend.specs.declared.running.AmendRunError.TheVariants as run_errors;
 
 use crate::amend_error::{AmendError, NOT_READ};
-use crate::mark_search::MarkSearch;
+use crate::mark_search::{MarkSearch, Searched};
 use crate::memory_forecast::MemoryForecast;
 use crate::progress::{Watch, Watched};
 use crate::summed::Summed;
@@ -20,7 +20,10 @@ use vcd_amend::{AmendRunError, Passes};
 use vcd_core::{FromRead, Source};
 
 /// A pass over a capture file, which shows how far it is.
-pub type Pass<'a, R> = Summed<Watched<'a, R, FromRead<<R as Files>::File>>>;
+pub type Pass<'a, R> = Summed<Watched<'a, R, CaptureBytes<R>>>;
+
+/// The bytes of a capture file, in which a mark may be looked for.
+type CaptureBytes<R> = Searched<FromRead<<R as Files>::File>>;
 
 /// A capture file, as it was before it was opened.
 #[derive(Clone, Copy)]
@@ -130,13 +133,14 @@ fn open_pass<'a, R: Runtime>(
     ensures fault { IfErr result (λ e. e ≡ not_read) }
 {
     let file = fs::open(rt, path).map_err(|_| NOT_READ)?;
-    let source = Watched::new(rt, FromRead::new(file), watch, task, forecast, search);
+    let bytes = Searched::new(FromRead::new(file), search);
+    let source = Watched::new(rt, bytes, watch, task, forecast);
     Ok(Summed::new(source))
 }
 
 /// Whether a mark of an earlier run was found while the passes were read.
 pub fn have_found_mark<R: Runtime>(passes: &mut Passes<Pass<'_, R>>) -> bool {
-    passes.declarations.source().has_found_mark()
+    passes.declarations.source().source().has_found_mark()
 }
 
 /// Takes what the passes have shown from the terminal.

@@ -16,6 +16,7 @@ use crate::amend_error::{AmendError, NO_MEMORY, NO_SCRIPT};
 use crate::capture_mark::{digest_of, head_of};
 use crate::command_line::{Options, command_line, options_of};
 use crate::file_reasons::tell_reason;
+use crate::mark_search::tell_earlier_mark;
 use crate::part::run_part;
 use crate::passes::{
     CaptureFile, Pass, clear_progress, have_found_mark, refuse_changed, refuse_replaced,
@@ -150,19 +151,11 @@ pub fn run_on_file<R: Runtime + AllocGlobal>(
     let mut passes = capture.open_passes(rt)?;
     let outcome = run_passes(rt, guarded, &mut passes, mark, options);
     clear_progress(&mut passes);
-    if outcome.is_ok() && options.output.is_some() && !options.is_marked && !options.is_quiet {
-        tell_earlier_mark(rt, &mut passes);
+    let is_told = outcome.is_ok() && options.output.is_some() && !options.is_marked;
+    if is_told && !options.is_quiet && have_found_mark(&mut passes) {
+        tell_earlier_mark(rt);
     }
     outcome
-}
-
-/// Tells that the capture has a mark, which stays in the output.
-fn tell_earlier_mark<'a, R: Runtime>(rt: &'a R, passes: &mut Passes<Pass<'a, R>>) {
-    if have_found_mark(passes) {
-        let _ = eprintln!(rt;
-            "output: the mark of an earlier run stays, and tells nothing of this one"
-        );
-    }
 }
 
 /// Opens the script, and runs.

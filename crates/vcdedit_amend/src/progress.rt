@@ -2,7 +2,6 @@
 
 ghost use Rattle.std.specs.Prelude.{◌≡◌};
 
-use crate::mark_search::MarkSearch;
 use crate::memory_forecast::MemoryForecast;
 use std::fs;
 use std::io::Eprint;
@@ -37,8 +36,6 @@ pub struct Watched<'a, R, S> {
     rt: &'a R,
     source: S,
     line: ProgressLine,
-    // none for a pass in which no mark is looked for
-    search: Option<MarkSearch>,
 }
 
 /// The line on a pass, and what is foretold of its memory.
@@ -80,14 +77,13 @@ impl Watch {
 
 impl<'a, R: Runtime, S: Source> Watched<'a, R, S> {
     /// A source of the same bytes, for a pass that does this, in at most 20 letters. If the pass
-    /// holds changes, there is a forecast of them. One of the passes looks for a mark.
+    /// holds changes, there is a forecast of them.
     pub fn new(
         rt: &'a R,
         source: S,
         watch: Watch,
         task: &'static str,
         forecast: Option<MemoryForecast>,
-        search: Option<MarkSearch>,
     ) -> Watched<'a, R, S>
         ensures { ⟦<Watched<'a, R, S> as Source>⟧.has_failed result ≡ S.has_failed source }
     {
@@ -102,13 +98,12 @@ impl<'a, R: Runtime, S: Source> Watched<'a, R, S> {
                 shown: None,
                 forecast,
             },
-            search,
         }
     }
 
-    /// Whether a mark of an earlier run has come, if one is looked for.
-    pub fn has_found_mark(&self) -> bool {
-        self.search.is_some_and(|search| search.has_found())
+    /// The source below it.
+    pub fn source(&self) -> &S {
+        &self.source
     }
 
     /// Takes the line from the terminal, if it is there.
@@ -128,9 +123,6 @@ impl<'a, R: Runtime, S: Source> Source for Watched<'a, R, S> {
             self.line.clear(self.rt);
         } else {
             self.line.add(self.rt, count as u64);
-        }
-        if let Some(search) = &mut self.search {
-            search.go_on(&buffer[..count]);
         }
         Ok(count)
     }

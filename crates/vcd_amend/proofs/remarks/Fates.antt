@@ -7,7 +7,8 @@ use Rattle.std.proofs.lemmas.List.{append-nil, take_more, map-append}
 use Rattle.vcd_text.specs.AsDeclared.{declared_name}
 use Rattle.vcd_text.specs.Grammar.{VariableDeclaration}
 use Rattle.vcd_amend.specs.Amendment.{Amendment, Fate, fate_of, flat_map_along, variable_left, variables_left}
-use Rattle.vcd_amend.specs.OutputRemarks.{edited_apart, has_other_code, is_removed_apart, removed_apart}
+use Rattle.vcd_amend.specs.OutputRemarks.{edited_apart, has_other_code, is_removed_apart, is_removed_by, removed_apart}
+use Rattle.vcd_amend.specs.OutputRemarks.{removed_variables}
 use Rattle.vcd_amend.specs.Amendment.{amended_variables}
 use Rattle.vcd_amend.specs.inside.OutputRemarks.{VariableFate, variable_fates, variables_by_fate, variables_in_place}
 use Rattle.vcd_amend.proofs.amended.Along.{flat_map_along-append}
@@ -41,10 +42,14 @@ pub edited_are : (a : Amendment) (ds : List VariableDeclaration)
     → variables_by_fate has_other_code (variable_fates a ds) ≡ edited_apart a ds
 edited_are a ds = along_fates a (λ f d. if has_other_code f d then d ∷ [] else []) [] ds
 
-pub removed_are : (a : Amendment) (ds : List VariableDeclaration)
+pub removed_apart_are : (a : Amendment) (ds : List VariableDeclaration)
     → variables_by_fate (is_removed_apart (amended_variables a ds)) (variable_fates a ds) ≡ removed_apart a ds
-removed_are a ds =
+removed_apart_are a ds =
     along_fates a (λ f d. if is_removed_apart (amended_variables a ds) f d then d ∷ [] else []) [] ds
+
+pub removed_are : (a : Amendment) (ds : List VariableDeclaration)
+    → variables_by_fate is_removed_by (variable_fates a ds) ≡ removed_variables a ds
+removed_are a ds = along_fates a (λ f d. if is_removed_by f d then d ∷ [] else []) [] ds
 
 pub in_place_are : (a : Amendment) (ds : List VariableDeclaration)
     → variables_in_place (variable_fates a ds) ≡ variables_left a ds

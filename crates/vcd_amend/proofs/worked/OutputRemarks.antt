@@ -39,15 +39,17 @@ amendment = record {
 }
 
 abbrev apart : List ℕ
-apart = codes "output: edited, but not as another variable of the same code: top.a" ++ 10 ∷ []
+apart = codes "output: edited, unlike another variable of the same code: top.a" ++ 10 ∷ []
     ++ codes "output: removed, but another variable of the same code stays: top.?" ++ 10 ∷ []
+    ++ codes "output: removed, but scopes, comments, marks, time stamps and namesakes may tell of them: top.?, top.g"
+    ++ 10 ∷ []
 
 without_cuts : output_remarks amendment declared false ≡ apart
 unfolding name_in
 without_cuts = refl
 
 with_cuts : output_remarks amendment declared true
-    ≡ apart ++ codes "output: events at the ticks that are cut are left out: top.go" ++ 10 ∷ []
+    ≡ apart ++ codes "output: events at the ticks that are cut, if any, are left out: top.go" ++ 10 ∷ []
 unfolding name_in
 with_cuts = refl
 

@@ -483,7 +483,7 @@ impl<'a, W: Sink> Amender<W> for FileAmender<'a> {
 
     fn write_before(&self, _output: &mut Output<W>) {}
 
-    fn pass(&mut self) {}
+    fn pass(&mut self, _is_comment_or_other: bool) {}
 
     fn is_done(&self) -> bool {
         false

@@ -89,7 +89,7 @@ impl<W: Sink> Amender<W> for Collector {
 
     fn write_before(&self, _output: &mut Output<W>) {}
 
-    fn pass(&mut self) {
+    fn pass(&mut self, _is_comment_or_other: bool) {
         self.path = None;
     }
 

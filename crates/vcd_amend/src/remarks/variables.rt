@@ -1,4 +1,5 @@
-//! The variables that are edited or removed, while others of their code are not.
+//! The variables that are edited or removed, while others of their code are not, and all that are
+//! removed.
 
 ghost use Rattle.std.specs.Prelude.{◌≡◌, ◌++◌, ℕ, List, map, is_some, IfOk};
 ghost use Rattle.vcd_text.specs.AsDeclared.{declared_name};
@@ -6,7 +7,7 @@ ghost use Rattle.vcd_text.specs.Grammar.{VariableDeclaration};
 ghost use Rattle.vcd_text.specs.inside.reading.CodeTargets.{code_target};
 ghost use Rattle.vcd_amend.specs.Amendment.{first_with_code};
 ghost use Rattle.vcd_amend.specs.AmendmentContents.{added_contents};
-ghost use Rattle.vcd_amend.specs.OutputRemarks.{has_other_code, is_removed_apart};
+ghost use Rattle.vcd_amend.specs.OutputRemarks.{has_other_code, is_removed_apart, is_removed_by};
 ghost use Rattle.vcd_amend.specs.inside.OutputRemarks.{fate_in_memory, variables_in_place};
 ghost use Rattle.vcd_amend.specs.inside.OutputRemarks.{variables_by_fate, HaveCodesOf};
 
@@ -68,7 +69,7 @@ fn has_other_code(variable: &FatedVariable) -> bool
 
 /// The names of the variables that are removed, while a variable has their code in the amended
 /// file.
-pub fn removed_names(
+pub fn removed_apart_names(
     alloc: Global,
     fated: &[FatedVariable],
     uses: &CodeTargets<CodeUse>,
@@ -94,6 +95,32 @@ fn is_removed_apart(variable: &FatedVariable, uses: &CodeTargets<CodeUse>) -> bo
 {
     match variable.left {
         VariableLeft::Nothing => uses.get(variable.declared.code.as_slice()).is_used,
+        VariableLeft::Changed { .. } => false,
+        VariableLeft::All => false,
+    }
+}
+
+/// The names of the variables that are removed.
+pub fn removed_names(alloc: Global, fated: &[FatedVariable]) -> Result<Vec<Word>, NoMemory>
+    ensures { IfOk result (λ names. names.items
+        ≡ map declared_name (variables_by_fate is_removed_by (map fate_in_memory fated.now))) }
+{
+    let mut names = Vec::new(alloc);
+    for variable in fated {
+        if is_removed(variable) {
+            names.push(copy_name(alloc, variable.declared)?)?;
+        }
+    }
+    Ok(names)
+}
+
+/// Whether a variable is removed.
+fn is_removed(variable: &FatedVariable) -> bool
+    ensures { result ≡ is_removed_by (fate_in_memory variable.now).fate
+        (fate_in_memory variable.now).variable }
+{
+    match variable.left {
+        VariableLeft::Nothing => true,
         VariableLeft::Changed { .. } => false,
         VariableLeft::All => false,
     }

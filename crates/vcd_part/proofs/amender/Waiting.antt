@@ -20,6 +20,7 @@ use Rattle.vcd_part.specs.Requests.{keeps, decide}
 use Rattle.vcd_part.specs.PartPieces.{pieces_of_step, declaration_in_part, ended_in_part, first_pieces, last_such}
 use Rattle.vcd_part.specs.PartPieces.{is_change_of, is_stamp, on_own_line, comment_piece, lasting_codes}
 use Rattle.vcd_part.specs.PartPieces.{kept_count, all_count}
+use Rattle.vcd_part.specs.WrittenPart.{comment_count}
 use Rattle.vcd_part.specs.inside.PartAmender.{HasSeen, Knows, IsAt}
 use Rattle.vcd_part.specs.inside.PartCopy.{waiting_after, settled_after, waiting_stamp, waiting_from}
 use Rattle.vcd_text.proofs.shared.StatesOfPieces.{one_more, at_any_limit}
@@ -31,7 +32,7 @@ use Rattle.vcd_text.proofs.read_back.Decimals.{number_of-decimal}
 use Rattle.vcd_part.proofs.shared.SettledPieces.{IsNoStamp, no_stamps_wait, waiting_more, none_settle}
 use Rattle.vcd_part.proofs.shared.SettledPieces.{first_stamp_settles, settled_both, waiting_both}
 
--- ---- one that holds another stamp
+-- ---- one that holds another stamp, or has counted another number
 
 -- it knows the same
 pub known_still : (m : PartAmender) (v : Vec ℕ) (before : List Piece) (s : ParseState) → IsAt m before s
@@ -47,23 +48,38 @@ known_still m v before s at = record {
   holds = at.holds;
 }
 
+pub known_counted : (m : PartAmender) (n : ℕ) (before : List Piece) (s : ParseState) → IsAt m before s
+    → IsAt (record m { comments = n }) before s
+known_counted m n before s at = record {
+  noted = at.noted;
+  uses = at.uses;
+  window = at.window;
+  refusal = at.refusal;
+  tick = at.tick;
+  some = at.some;
+  holds_none = at.holds_none;
+  holds = at.holds;
+}
+
 -- with these pieces in the place of one more
 pub seen_with : (m : PartAmender) (v : Vec ℕ) (before : List Piece) (p : Piece) (ps : List Piece)
     → pieces_of_step m.request before p ≡ ps → Knows m (before ++ p ∷ [])
     → v.items ≡ piece_bytes (waiting_after (waiting_stamp m.request before) ps)
-    → HasSeen (record m { waiting = v }) (before ++ p ∷ [])
-seen_with m v before p ps pieces known waits = record {
+    → m.comments ≡ comment_count (before ++ p ∷ []) → HasSeen (record m { waiting = v }) (before ++ p ∷ [])
+seen_with m v before p ps pieces known waits counts = record {
   known = known_still m v (before ++ p ∷ []) (state_of_pieces 0 (before ++ p ∷ [])) known;
   waiting = waits ∙ ap piece_bytes (ap (waiting_after (waiting_stamp m.request before)) (sym pieces)
       ∙ sym (waiting_more m.request before p));
+  comments = counts;
 }
 
 -- with none in its place
 pub seen_without : (m : PartAmender) (v : Vec ℕ) (before : List Piece) (p : Piece)
     → pieces_of_step m.request before p ≡ [] → Knows m (before ++ p ∷ [])
-    → v.items ≡ piece_bytes (waiting_stamp m.request before) → HasSeen (record m { waiting = v }) (before ++ p ∷ [])
-seen_without m v before p none known waits = seen_with m v before p [] none known
-    (waits ∙ ap piece_bytes (sym (none_settle (waiting_stamp m.request before)).1))
+    → v.items ≡ piece_bytes (waiting_stamp m.request before) → m.comments ≡ comment_count (before ++ p ∷ [])
+    → HasSeen (record m { waiting = v }) (before ++ p ∷ [])
+seen_without m v before p none known waits counts = seen_with m v before p [] none known
+    (waits ∙ ap piece_bytes (sym (none_settle (waiting_stamp m.request before)).1)) counts
 
 pub bytes_without : (r : Request) (before : List Piece) (p : Piece) → pieces_of_step r before p ≡ []
     → piece_bytes (settled_after (waiting_stamp r before) (pieces_of_step r before p)) ≡ []

@@ -2,7 +2,7 @@
 use Rattle.std.proofs.Common.{◌≡◌, ℕ, zero, suc, ◌+◌, ◌==◌, ◌&&◌, ◌||◌, Bool, true, false, not, Option, Some, None, Bor}
 use Rattle.std.proofs.Common.{if◌then◌else◌, List, [], ◌∷◌, ◌++◌, length, map, refl, sym, ap, ap₂, ◌∙◌, subst, arith}
 use Rattle.std.proofs.Common.{append-nil, length-append, cond}
-use Rattle.std.specs.Prelude.{find, filter}
+use Rattle.std.specs.Prelude.{find, filter, bytes_eq, codes}
 use Rattle.std.specs.List.{list_any, concat}
 use Rattle.std.specs.Option.{option_or}
 use Rattle.std.proofs.lemmas.Bool.{ne_eqb}
@@ -16,8 +16,7 @@ use Rattle.vcd_part.specs.declared.patterns.Patterns.{Patterns}
 use Rattle.vcd_part.specs.declared.request.Request.{Request}
 use Rattle.vcd_part.specs.Pattern.{meets}
 use Rattle.vcd_part.specs.Requests.{texts, meets_one, keeps_name, is_met, keeps, removes, leaves_none}
-use Rattle.vcd_part.specs.WrittenPart.{removed_variable}
-use Rattle.vcd_part.specs.declared.removed.RemovedVariable.{RemovedVariable}
+use Rattle.vcd_part.specs.WrittenPart.{named_variable, is_kept_event}
 use Rattle.vcd_text.specs.AsDeclared.{declared_name}
 use Rattle.vcd_part.specs.PartPieces.{bounded_count, kept_count, all_count}
 use Rattle.vcd_part.specs.inside.Patterns.{HaveMet}
@@ -52,6 +51,15 @@ one_counted test xs x so_far counts so is =
     by_test false counts is fails all =
         let none : length (filter test (x ∷ [])) ≡ 0 = rw fails refl in
         rw is (omega (arith, all, none, so))
+
+-- one that does not pass
+pub not_counted : {X : Type 0} (test : X → Bool) (xs : List X) (x : X) (so_far : ℕ)
+    → so_far ≡ bounded_count (length (filter test xs)) → false ≡ test x
+    → so_far ≡ bounded_count (length (filter test (xs ++ x ∷ [])))
+not_counted test xs x so_far so isnt =
+    let none : filter test (x ∷ []) ≡ [] = rw (← isnt) refl in
+    so ∙ ap (λ l. bounded_count (length l)) (sym (filter-append test xs (x ∷ [])
+    ∙ ap (λ l. filter test xs ++ l) none ∙ append-nil (filter test xs)))
 
 -- one more of all
 pub all_counted : {X : Type 0} (xs : List X) (x : X) (so_far : ℕ) → so_far ≡ bounded_count (length xs)
@@ -99,26 +107,36 @@ pub is_removed : (r : Request) (remove : Option (Bor (List (Bor (List ℕ))))) (
 is_removed r remove d name removed remove_is same meets =
     meets ∙ ap₂ (λ p n. meets_one false (texts p) n) remove_is same
 
--- one more of those to remove
-pub removed_more : (r : Request) (declared : List VariableDeclaration) (d : VariableDeclaration)
-    (before : List RemovedVariable) (removed : Bool) (name code : List ℕ)
-    → before ≡ map removed_variable (filter (removes r) declared) → removed ≡ removes r d → name ≡ declared_name d
-    → d.code ≡ code → (if removed then before ++ record { name = name; code = code } ∷ [] else before)
-    ≡ map removed_variable (filter (removes r) (declared ++ d ∷ []))
-removed_more r declared d before removed name code before_are is same same_code =
-    (λ i. if is i then before_are i ++ record { name = same i; code = sym same_code i } ∷ [] else before_are i)
-    ∙ by_test (removes r d) refl
-    ∙ sym (ap (map removed_variable) (filter-append (removes r) declared (d ∷ []))
-    ∙ map-append removed_variable noted (filter (removes r) (d ∷ [])))
+-- one more of those that pass a test, as they are noted
+pub noted_more : {A : Type 0} (f : VariableDeclaration → A) (test : VariableDeclaration → Bool)
+    (declared : List VariableDeclaration) (d : VariableDeclaration) (before : List A) (passes : Bool) (one : A)
+    → before ≡ map f (filter test declared) → passes ≡ test d → one ≡ f d
+    → (if passes then before ++ one ∷ [] else before) ≡ map f (filter test (declared ++ d ∷ []))
+noted_more {A} f test declared d before passes one before_are is same =
+    (λ i. if is i then before_are i ++ same i ∷ [] else before_are i)
+    ∙ by_test (test d) refl
+    ∙ sym (ap (map f) (filter-append test declared (d ∷ []))
+    ∙ map-append f noted (filter test (d ∷ [])))
   where
     noted : List VariableDeclaration
-    noted = filter (removes r) declared
+    noted = filter test declared
 
-    by_test : (b : Bool) → removes r d ≡ b
-        → (if removes r d then map removed_variable noted ++ removed_variable d ∷ [] else map removed_variable noted)
-        ≡ map removed_variable noted ++ map removed_variable (filter (removes r) (d ∷ []))
+    by_test : (b : Bool) → test d ≡ b → (if test d then map f noted ++ f d ∷ [] else map f noted)
+        ≡ map f noted ++ map f (filter test (d ∷ []))
     by_test true is = rw is refl
-    by_test false is = rw is (sym (append-nil (map removed_variable noted)))
+    by_test false is = rw is (sym (append-nil (map f noted)))
+
+-- what is kept and of the kind of events is a kept event
+pub kept_event_so : (r : Request) (d : VariableDeclaration) (kept passes : Bool) (kind : List ℕ)
+    → kept ≡ keeps r d → kind ≡ d.kind → passes ≡ (kept && bytes_eq kind (codes "event"))
+    → passes ≡ is_kept_event r d
+kept_event_so r d kept passes kind kept_is same is =
+    is ∙ ap₂ (λ a k. a && bytes_eq k (codes "event")) kept_is same
+
+-- a name and a code are those of a variable
+pub named_so : (d : VariableDeclaration) (name code : List ℕ) → name ≡ declared_name d → d.code ≡ code
+    → record { name = name; code = code } ≡ named_variable d
+named_so d name code same same_code = λ i. record { name = same i; code = sym same_code i }
 
 -- one more name
 pub met_more : (p : Patterns) (declared : List VariableDeclaration) (d : VariableDeclaration) (name : List ℕ)

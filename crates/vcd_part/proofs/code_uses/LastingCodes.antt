@@ -34,7 +34,7 @@ abbrev pub if_new : List ℕ → List (List ℕ) → List (List ℕ)
 if_new w known = if list_any (bytes_eq w) known then [] else w ∷ []
 
 -- one word more
-each_once_more : (before ws : List (List ℕ)) (w : List ℕ) → each_once before (ws ++ w ∷ [])
+pub each_once_more : (before ws : List (List ℕ)) (w : List ℕ) → each_once before (ws ++ w ∷ [])
     ≡ each_once before ws ++ if_new w (before ++ each_once before ws)
 unfolding each_once
 each_once_more before [] w = ap (if_new w) (sym (append-nil before))

@@ -24,7 +24,7 @@ use Rattle.vcd_part.specs.inside.PartAmender.{HasSeen, IsSaid, OutcomeOf, refusa
 use Rattle.vcd_text.proofs.shared.StatesOfPieces.{at_any_limit}
 use Rattle.vcd_part.proofs.amender.Decided.{answer_in, answer_with_window, answer_without_window, answer_with_refusal}
 use Rattle.vcd_part.proofs.part.CopiedPieces.{part_is_copied}
-use Rattle.vcd_part.proofs.part.SameItems.{told_items}
+use Rattle.vcd_part.proofs.part.SameItems.{told_items, same_comments}
 
 -- the answer does not depend on the greatest number of variables that may be kept
 answer_at_limit : (r : Request) (pieces : List Piece)
@@ -99,8 +99,11 @@ is_part m file text written copy told none said =
             ∙ ap (λ (s : ParseState). s.tick) state) here.0;
       };
       is = copy.is ∙ part_is_copied m.request copy.pieces copy.tail;
-      said = here.1 t.pieces t.is_told ∙ ap (λ (s : ParseState). written_part m.request s d.window)
-          (sym (at_any_limit VARIABLE_LIMIT t.pieces) ∙ state);
+      said = here.1 t.pieces t.is_told ∙ ap (λ (s : ParseState). written_part m.request t.pieces s d.window)
+          (sym (at_any_limit VARIABLE_LIMIT t.pieces) ∙ state)
+          ∙ ap (λ n. record (written_part m.request copy.pieces (state_of_pieces VARIABLE_LIMIT copy.pieces) d.window) {
+            comments = n;
+          }) (same_comments t.pieces copy.pieces (sym same));
     }
 
 -- the request is refused

@@ -6,8 +6,9 @@ use Rattle.vcd_part.specs.declared.request.Request.{Request}
 use Rattle.vcd_text.specs.AsDeclared.{declared_name}
 use Rattle.vcd_part.specs.Requests.{removes}
 use Rattle.vcd_part.specs.PartPieces.{kept_count, all_count}
-use Rattle.vcd_part.specs.WrittenPart.{removed_variable}
+use Rattle.vcd_part.specs.WrittenPart.{named_variable, is_kept_event}
 use Rattle.vcd_part.specs.inside.Patterns.{HaveMet}
+use Rattle.vcd_part.specs.inside.ScopePaths.{AreScopes}
 
 -- of a request these declarations were noted
 pub record HasNoted (c : VariableChoice) (r : Request)
@@ -19,4 +20,7 @@ pub record HasNoted (c : VariableChoice) (r : Request)
     pub remove_met : HaveMet c.remove (map declared_name declared)
     pub kept : c.kept ≡ kept_count r declared
     pub all : c.all ≡ all_count declared
-    pub removed : c.removed.items ≡ map removed_variable (filter (removes r) declared)
+    pub scopes : AreScopes c.scopes r declared
+    pub removed_names : c.removed_names.items ≡ map declared_name (filter (removes r) declared)
+    pub events : c.events.items ≡ map named_variable (filter (is_kept_event r) declared)
+    pub removed : c.removed.items ≡ map named_variable (filter (removes r) declared)

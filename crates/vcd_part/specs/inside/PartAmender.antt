@@ -14,7 +14,7 @@ use Rattle.vcd_part.specs.declared.request.Request.{Request}
 use Rattle.vcd_part.specs.declared.request.Refusal.{Refusal}
 use Rattle.vcd_part.specs.Requests.{decide, unmet}
 use Rattle.vcd_part.specs.PartPieces.{is_up_to_first, pieces_at_end}
-use Rattle.vcd_part.specs.WrittenPart.{written_part}
+use Rattle.vcd_part.specs.WrittenPart.{comment_count, written_part}
 use Rattle.vcd_text.specs.Pieces.{piece_bytes}
 use Rattle.vcd_part.specs.inside.Choice.{HasNoted}
 use Rattle.vcd_part.specs.inside.CodeUses.{AreUses, HoldLast}
@@ -55,10 +55,11 @@ pub record IsAt (m : PartAmender) (before : List Piece) (s : ParseState) : Type 
 abbrev pub Knows : PartAmender → List Piece → Type 0
 Knows m before = IsAt m before (state_of_pieces 0 before)
 
--- the same, and it holds the stamp that waits after them
+-- the same, it holds the stamp that waits after them, and has counted the comments among them
 pub record HasSeen (m : PartAmender) (before : List Piece) : Type 0 where
   pub known : Knows m before
   pub waiting : m.waiting.items ≡ piece_bytes (waiting_stamp m.request before)
+  pub comments : m.comments ≡ comment_count before
 
 -- what it writes: at the end what a part has there, if the declarations have ended
 abbrev pub rules_of : Request → CopyRules
@@ -70,7 +71,7 @@ rules_of r = record (part_rules r) {
 -- this is what there is to say of the part with this window
 abbrev pub IsSaid : PartAmender → TickRange → WrittenPart → Type 0
 IsSaid m w written = (before : List Piece) → HasSeen m before
-    → written ≡ written_part m.request (state_of_pieces 0 before) w
+    → written ≡ written_part m.request before (state_of_pieces 0 before) w
 
 -- what comes of a copy: a refusal, or a window that begins past the end, or else a part
 abbrev pub OutcomeOf : PartAmender → Result WrittenPart PartError → Type 0

@@ -39,7 +39,9 @@ impl PartAmender<'_, '_> {
         let Some(declared) = VariableWords::read(body) else {
             return Ok(());
         };
-        let is_kept = self.choice.note(scopes, declared.code, declared.names)?;
+        let is_kept = self
+            .choice
+            .note(scopes, declared.kind, declared.code, declared.names)?;
         self.codes.note_variable(declared, is_kept)?;
         write_if(output, is_kept, space, body);
         Ok(())

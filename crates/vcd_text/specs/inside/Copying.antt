@@ -5,13 +5,14 @@ use Rattle.std.specs.Prelude.{[], ◌∷◌, ◌++◌}
 use Rattle.std.specs.Prelude.{length, Option, Some, None, IsTrue, MatchOption}
 use Rattle.std.specs.List.{list_all, prefix_len, suffix_len}
 use Rattle.vcd_core.specs.Word.{is_white_space}
+use Rattle.vcd_core.specs.declared.capture.HeaderKind.TheVariants.{Date, Version, Comment}
 use Rattle.vcd_core.specs.declared.capture.Timescale.{Timescale}
 use Rattle.vcd_core.specs.declared.device.Sink as sinks
 use Rattle.vcd_text.specs.Words.{WordOnLine, words_of}
 use Rattle.vcd_text.specs.Grammar.{initial_state, AllowsAll, word_texts}
 use Rattle.vcd_text.specs.Pieces.{state_of_pieces, Piece, piece_bytes, IsCut}
 use Rattle.vcd_text.specs.Copied.{CopyRules, copied_pieces, piece_items}
-use Rattle.vcd_text.specs.Copied.{may_be_amended, Shows}
+use Rattle.vcd_text.specs.Copied.{may_be_amended, is_comment_or_other, Shows}
 use Rattle.vcd_text.specs.Copied.{IsNext, IsCopy}
 use Rattle.vcd_text.specs.declared.copying.copier.Copier.{Copier}
 use Rattle.vcd_text.specs.inside.Words.{has_complete_words}
@@ -37,6 +38,14 @@ stands_open items.Scope = true
 stands_open items.Upscope = true
 stands_open items.Other = true
 stands_open item = false
+
+-- whether an open item is a comment of the declarations, or any other command
+abbrev pub is_open_comment_or_other : OpenItem → Bool
+is_open_comment_or_other (items.Entry Date) = false
+is_open_comment_or_other (items.Entry Version) = false
+is_open_comment_or_other (items.Entry Comment) = true
+is_open_comment_or_other items.Other = true
+is_open_comment_or_other item = false
 
 -- what is shown of the item of one word, if it may be amended
 abbrev pub shown_word : List ℕ → (tick : ℕ) → Option AmendableItem
@@ -76,6 +85,7 @@ pub record EndsPiece (limit : ℕ) (before : List Piece) (p : Piece) (item : Ope
       (λ shown. Shows (state_of_pieces limit before) shown (code_in item text) p.item)
   pub scopes : may_be_amended p.item ≡ true
       → open_scopes m.variables.scopes ≡ (state_of_pieces limit before).scopes
+  pub free : is_open_comment_or_other item ≡ is_comment_or_other p.item
 
 -- ---- the bytes so far
 

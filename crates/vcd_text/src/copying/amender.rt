@@ -2,6 +2,7 @@
 
 ghost use Rattle.std.specs.Prelude.{◌≡◌, ◌++◌, ◌∷◌, [], ℕ, Bool, List, OnOk, OnErr, true, false};
 ghost use Rattle.vcd_text.specs.Pieces.{Piece};
+ghost use Rattle.vcd_text.specs.Copied as spec;
 ghost use Rattle.vcd_text.specs.Copied.{CopyRules, IsNext, IsShownNext, IsTakenNext};
 ghost use Rattle.vcd_text.specs.Copied.{may_be_amended};
 ghost use Rattle.vcd_text.specs.EmittedText.{Emits, EmitsMore};
@@ -110,11 +111,13 @@ pub trait Amender<W: Sink> {
         ensures { (before : List Piece) → has_seen self.now before →
             Emits W.Sink output.old output.new ((rules (given self.now)).before_others before) };
 
-    /// Passes over any other item, which has ended.
-    fn pass(&mut self)
+    /// Passes over any other item, which has ended: a comment of the declarations or any other
+    /// command, or else one of their items, or a word of a dump.
+    fn pass(&mut self, is_comment_or_other: bool)
         ensures seen { (limit : ℕ) (before : List Piece) (p : Piece) →
             has_seen self.old before → IsNext limit before p p.space p.body →
-            may_be_amended p.item ≡ false → has_seen self.new (before ++ p ∷ []) }
+            may_be_amended p.item ≡ false → is_comment_or_other ≡ spec.is_comment_or_other p.item →
+            has_seen self.new (before ++ p ∷ []) }
         ensures same { given self.new ≡ given self.old };
 
     /// Whether the rest of the file is of no use. The copy then stops after the chunk.

@@ -6,6 +6,7 @@ ghost use Rattle.vcd_text.specs.Pieces.{Piece};
 ghost use Rattle.vcd_text.specs.Copied.{copied_piece, IsTakenNext};
 ghost use Rattle.vcd_text.specs.inside.Copying.{stands_open, shown_word, shown_item, code_in};
 ghost use Rattle.vcd_text.specs.inside.Copying.{code_after_digit, EndsPiece};
+ghost use Rattle.vcd_text.specs.inside.Copying.{is_open_comment_or_other};
 ghost use Rattle.vcd_text.specs.inside.reading.Scopes.{open_scopes};
 ghost use Rattle.vcd_text.specs.inside.Copying.{IsUnwritten, IsHeldPiece, HasPassed};
 ghost use Rattle.vcd_text.specs.EmittedText.{Emits, EmitsMore};
@@ -14,7 +15,7 @@ use super::amender::{AmendableItem, Amender, InPlace};
 use super::pieces::{Held, Unwritten, hold, leave_out, let_stand, write_held, write_standing};
 use crate::reading::parser::{OpenItem, Parser};
 use crate::writing::output::Output;
-use vcd_core::{NoMemory, ScopeName, Sink, Timescale};
+use vcd_core::{HeaderKind, NoMemory, ScopeName, Sink, Timescale};
 
 /// Does what becomes of the item that this word ends; `earlier` is what was open before.
 pub fn end_item<'a, W: Sink, A: Amender<W>>(
@@ -56,7 +57,7 @@ pub fn end_item<'a, W: Sink, A: Amender<W>>(
         }
         None => {
             let_stand(held, amender, output, unwritten, earlier, rest);
-            amender.pass();
+            amender.pass(is_comment_or_other(earlier));
             Ok(())
         }
     }
@@ -195,6 +196,16 @@ fn item_of_word(text: &[u8], tick: u64) -> Option<AmendableItem>
         [b'#', ..] => Some(AmendableItem::Stamp { tick }),
         [b'$', ..] => None,
         _ => Some(AmendableItem::Value),
+    }
+}
+
+/// Whether an open item is a comment of the declarations, or any other command.
+fn is_comment_or_other(earlier: OpenItem) -> bool
+    ensures { result ≡ is_open_comment_or_other earlier }
+{
+    match earlier {
+        OpenItem::Entry(HeaderKind::Comment) | OpenItem::Other => true,
+        _ => false,
     }
 }
 

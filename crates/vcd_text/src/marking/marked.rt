@@ -62,8 +62,8 @@ impl<'a, W: Sink, A: Amender<W>> Amender<W> for Marked<'a, A> {
         self.amender.write_before(output)
     }
 
-    fn pass(&mut self) {
-        self.amender.pass()
+    fn pass(&mut self, is_comment_or_other: bool) {
+        self.amender.pass(is_comment_or_other)
     }
 
     fn is_done(&self) -> bool {

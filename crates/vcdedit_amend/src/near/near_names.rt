@@ -94,7 +94,7 @@ impl<'a, W: Sink> Amender<W> for NearNames<'a> {
 
     fn write_before(&self, _output: &mut Output<W>) {}
 
-    fn pass(&mut self) {}
+    fn pass(&mut self, _is_comment_or_other: bool) {}
 
     fn is_done(&self) -> bool {
         self.is_done

@@ -27,7 +27,7 @@ use Rattle.vcd_text.proofs.read_back.Words.{is_unbroken}
 use Rattle.vcd_text.proofs.pieces.Bytes.{texts_are}
 use Rattle.vcd_text.proofs.pieces.Cuts.{SpellsItem}
 use Rattle.vcd_text.proofs.copying.pieces.EndedItems.{nothing_open, something_open, opened_as, ended, stands_at}
-use Rattle.vcd_text.proofs.copying.pieces.EndedItems.{IsShownAs}
+use Rattle.vcd_text.proofs.copying.pieces.EndedItems.{IsShownAs, free_if}
 use Rattle.vcd_text.proofs.copying.pieces.OneWordMore.{not_complete, no_texts, shuffled, both_held, copied_more}
 use Rattle.vcd_text.proofs.copying.pieces.OneWordMore.{with_words_more, with_place}
 use Rattle.vcd_text.proofs.copying.pieces.OneWordMore.{cut_more, bytes_more, reaches_more, begins, goes_further}
@@ -230,6 +230,7 @@ module _ (limit : ℕ) (rules : CopyRules) (seen_before : List Piece → Type 0)
         next = record { allowed = reached.0; space_is = refl; body_is = refl; spelled = spells };
         shown = shown_as;
         scopes = λ amended. at.0.variables.opened ∙ scopes_stay (state_of_pieces limit h.pieces) i amended;
+        free = free_if h.asked old (state_of_pieces limit h.pieces) h.begun w i h.at.0 allows spelled old.item h.at.1;
       }
 
       pub piece_held : stands_open old.item ≡ false → (held1 ≡ piece.space ++ piece.body)

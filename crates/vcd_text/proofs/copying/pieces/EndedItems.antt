@@ -14,9 +14,10 @@ use Rattle.vcd_text.specs.Items.{Item, variable, end_definitions, stamp, scalar,
 use Rattle.vcd_text.specs.Items.{timescale, scope, upscope, dump_word, other, spelling, dump_words, header_word}
 use Rattle.vcd_text.specs.Items.{is_other, end_word, begins_section, declaration_words}
 use Rattle.vcd_text.specs.Grammar.{ParseState, fits, Allows, word_texts, state_after_item}
-use Rattle.vcd_text.specs.Copied.{may_be_amended, Shows, value_code}
+use Rattle.vcd_text.specs.Copied.{may_be_amended, is_comment_or_other, Shows, value_code}
 use Rattle.vcd_text.specs.Copied.{real_or_string_code}
 use Rattle.vcd_text.specs.inside.Copying.{shown_item, shown_word, stands_open, code_in, code_after_digit}
+use Rattle.vcd_text.specs.inside.Copying.{is_open_comment_or_other}
 use Rattle.vcd_text.specs.inside.reading.DigitTests.{vector_prefixes, real_or_string_prefixes}
 use Rattle.vcd_text.specs.inside.reading.Part.{Asked}
 use Rattle.vcd_text.specs.inside.reading.Parser.{IsBegun, ParserMatches}
@@ -109,8 +110,11 @@ one_word c (other word words) text tick allows spelled at = absurd (two_at_least
 
 -- ---- an item of several words
 
-other_early : (w : List ℕ) (ws : List (List ℕ)) → is_other false w ≡ true
-    → may_be_amended (first_item false (w ∷ ws)) ≡ false
+-- another command is the first item of its words
+abbrev IsOther : Item → Type 0
+IsOther i = (word : List ℕ) × (words : List (List ℕ)) × (i ≡ other word words)
+
+other_early : (w : List ℕ) (ws : List (List ℕ)) → is_other false w ≡ true → IsOther (first_item false (w ∷ ws))
 other_early w ws is =
     let (both, no_header) = and_parts (begins_section w && not (is_one_of declaration_words w))
     (not (is_one_of (map header_word (Date ∷ Version ∷ Comment ∷ [])) w)) is in
@@ -118,10 +122,9 @@ other_early w ws is =
     rw (
       not-true (is_one_of declaration_words w) no_declaration,
       not-true (is_one_of (map header_word (Date ∷ Version ∷ Comment ∷ [])) w) no_header,
-    ) refl
+    ) (w, before_end ws, refl)
 
-other_late : (w : List ℕ) (ws : List (List ℕ)) → is_other true w ≡ true
-    → may_be_amended (first_item true (w ∷ ws)) ≡ false
+other_late : (w : List ℕ) (ws : List (List ℕ)) → is_other true w ≡ true → IsOther (first_item true (w ∷ ws))
 other_late [] ws is = absurd (false≢true is)
 other_late (b ∷ bs) ws is =
     let (both, rest) = and_parts (begins_section (b ∷ bs) && not (is_one_of declaration_words (b ∷ bs))) true is in
@@ -131,22 +134,116 @@ other_late (b ∷ bs) ws is =
     let (command, no_dump) = and_parts (b == 36) (not (is_one_of dump_words (b ∷ bs))) section in
     let e : b ≡ 36 = eqb-true b 36 command in
     let no : is_one_of dump_words (36 ∷ bs) ≡ false = rw e at (not-true (is_one_of dump_words (b ∷ bs)) no_dump) in
-    rw e (rw no refl)
+    rw e (rw no (36 ∷ bs, before_end ws, refl))
+
+other_is : (b : Bool) (w : List ℕ) (ws : List (List ℕ)) → is_other b w ≡ true → IsOther (first_item b (w ∷ ws))
+other_is false w ws is = other_early w ws is
+other_is true w ws is = other_late w ws is
 
 other_stands : (b : Bool) (w : List ℕ) (ws : List (List ℕ)) → is_other b w ≡ true
     → may_be_amended (first_item b (w ∷ ws)) ≡ false
-other_stands false w ws is = other_early w ws is
-other_stands true w ws is = other_late w ws is
+other_stands b w ws is = ap may_be_amended (other_is b w ws is).2
+
+other_free : (b : Bool) (w : List ℕ) (ws : List (List ℕ)) → is_other b w ≡ true
+    → true ≡ is_comment_or_other (first_item b (w ∷ ws))
+other_free b w ws is = ap is_comment_or_other (sym (other_is b w ws is).2)
+
+-- ---- comments and other commands
+
+entry_free : (kind : HeaderKind) (ws : List (List ℕ)) → is_open_comment_or_other (items.Entry kind)
+    ≡ is_comment_or_other (first_item false (header_word kind ∷ ws))
+entry_free Date ws = refl
+entry_free Version ws = refl
+entry_free Comment ws = refl
+
+scope_not_free : (ws : List (List ℕ)) → false ≡ is_comment_or_other (scope_of ws)
+scope_not_free [] = refl
+scope_not_free (w ∷ ws) = refl
+
+word_not_free : (i : Item) (text : List ℕ) → spelling i ≡ text ∷ [] → false ≡ is_comment_or_other i
+word_not_free (stamp digits) text spelled = refl
+word_not_free (scalar digit code) text spelled = refl
+word_not_free (dump_word word) text spelled = refl
+word_not_free (entry kind words) text spelled = absurd (two_at_least words _ text spelled)
+word_not_free (timescale words) text spelled = refl
+word_not_free (scope kind words) text spelled = refl
+word_not_free upscope text spelled = refl
+word_not_free (variable words) text spelled = refl
+word_not_free end_definitions text spelled = refl
+word_not_free (vector first digits code) text spelled = refl
+word_not_free (real_or_string first digits code) text spelled = refl
+word_not_free (other word words) text spelled = absurd (two_at_least words _ text spelled)
+
+value_not_free : (i : Item) (code : List ℕ) → value_code i ≡ Some code → false ≡ is_comment_or_other i
+value_not_free (scalar digit own) code is = refl
+value_not_free (vector first digits own) code is = refl
+value_not_free (entry kind words) code is = absurd (cc)
+value_not_free (timescale words) code is = refl
+value_not_free (scope kind words) code is = refl
+value_not_free upscope code is = refl
+value_not_free (variable words) code is = refl
+value_not_free end_definitions code is = refl
+value_not_free (stamp digits) code is = refl
+value_not_free (real_or_string first text own) code is = refl
+value_not_free (dump_word word) code is = refl
+value_not_free (other word words) code is = absurd (cc)
+
+real_or_string_not_free : (i : Item) (code : List ℕ) → real_or_string_code i ≡ Some code
+    → false ≡ is_comment_or_other i
+real_or_string_not_free (real_or_string first text own) code is = refl
+real_or_string_not_free (scalar digit own) code is = refl
+real_or_string_not_free (vector first digits own) code is = refl
+real_or_string_not_free (entry kind words) code is = absurd (cc)
+real_or_string_not_free (timescale words) code is = refl
+real_or_string_not_free (scope kind words) code is = refl
+real_or_string_not_free upscope code is = refl
+real_or_string_not_free (variable words) code is = refl
+real_or_string_not_free end_definitions code is = refl
+real_or_string_not_free (stamp digits) code is = refl
+real_or_string_not_free (dump_word word) code is = refl
+real_or_string_not_free (other word words) code is = absurd (cc)
+
+module _ (asked : Asked) (m : Parser) (c : ParseState) (begun : List WordOnLine) (w : WordOnLine) (i : Item)
+    (agrees : ParserMatches asked m c) (allows : Allows c i)
+    (spelled : spelling i ≡ word_texts (begun ++ w ∷ [])) where
+  -- the item, by the words before this one
+  is_item : (b : Bool) (texts : List (List ℕ)) → m.in_body ≡ b → word_texts begun ≡ texts
+      → i ≡ first_item b (texts ++ w.text ∷ [])
+  is_item b texts here words = sym (item_of_words c i b (texts ++ w.text ∷ []) allows.0 (sym agrees.in_body ∙ here)
+      (spelled ∙ map-append (λ w. w.text) begun (w ∷ []) ∙ ap (λ ws. ws ++ w.text ∷ []) words))
+
+  free : {j : Item} → i ≡ j → is_comment_or_other j ≡ is_comment_or_other i
+  free same = ap is_comment_or_other (sym same)
+
+  pub free_if : (item : OpenItem) → IsBegun m begun item → is_open_comment_or_other item ≡ is_comment_or_other i
+  free_if items.Nothing is = word_not_free i w.text (spelled ∙ ap (λ ws. word_texts (ws ++ w ∷ [])) is)
+  free_if (items.Entry kind) is = entry_free kind (m.entry ++ w.text ∷ [])
+      ∙ free (is_item false _ is.declares is.spelled)
+  free_if items.Timescale is = free (is_item false _ is.declares is.spelled)
+  free_if items.Scope is = scope_not_free (before_end (m.words.items ++ w.text ∷ []))
+      ∙ free (is_item false _ is.declares is.spelled)
+  free_if items.Upscope is = free (is_item false _ is.0 is.1)
+  free_if items.Variable is = free (is_item false _ is.0.declares is.0.spelled)
+  free_if items.SizedVariable is = free (is_item false _ is.declares is.spelled)
+  free_if items.EndDefinitions is = free (is_item false _ is.0 is.1)
+  free_if items.Other is = other_free m.in_body is.keyword (is.words ++ w.text ∷ []) is.other
+      ∙ free (is_item m.in_body (is.keyword ∷ is.words) refl is.spelled)
+  free_if items.Vector is = value_not_free i w.text
+      (ap value_code (is_item true _ is.in_body (ap word_texts is.is ∙ ap (λ t. t ∷ []) is.spelled))
+      ∙ vector_has is.letter _ w.text is.among)
+  free_if items.RealOrString (text, is) = real_or_string_not_free i w.text
+      (ap real_or_string_code (is_item true _ is.in_body (ap word_texts is.is ∙ ap (λ t. t ∷ []) is.spelled))
+      ∙ real_or_string_has is.letter _ w.text is.among)
+
+-- ---- what is shown of it
 
 module _ (asked : Asked) (m : Parser) (c : ParseState) (begun : List WordOnLine) (w : WordOnLine) (i : Item)
     (tick depth : ℕ) (given : Option Timescale) (agrees : ParserMatches asked m c) (allows : Allows c i)
     (spelled : spelling i ≡ word_texts (begun ++ w ∷ [])) (at : tick ≡ (state_after_item c i).tick)
     (count : depth ≡ length (state_after_item c i).scopes) (same : given ≡ (state_after_item c i).timescale) where
-  -- the item, by the words before this one
   is_first : (b : Bool) (texts : List (List ℕ)) → m.in_body ≡ b → word_texts begun ≡ texts
       → i ≡ first_item b (texts ++ w.text ∷ [])
-  is_first b texts here words = sym (item_of_words c i b (texts ++ w.text ∷ []) allows.0 (sym agrees.in_body ∙ here)
-      (spelled ∙ map-append (λ w. w.text) begun (w ∷ []) ∙ ap (λ ws. ws ++ w.text ∷ []) words))
+  is_first = is_item asked m c begun w i agrees allows spelled
 
   pub ended : (item : OpenItem) → IsBegun m begun item → IsShownAs c item w.text tick depth given i
   ended items.Nothing is = one_word c i w.text tick allows (spelled ∙ ap (λ ws. word_texts (ws ++ w ∷ [])) is) at

@@ -1,5 +1,5 @@
 -- An error ends it.
-use Rattle.vcdedit_amend.proofs.part.Outcomes.{ends_with, refused, refused_first}
+use Rattle.vcdedit_amend.proofs.part.Outcomes.{changed_since, ends_with, refused, refused_first}
 use Rattle.vcdedit_amend.proofs.part.write_to_file.Goals as goal
 
 pub returns-in_err-check_first : goal.returns-in_err-check_first
@@ -11,3 +11,10 @@ pub returns-in_err-written : goal.returns-in_err-written
 returns-in_err-written g c = λ o script output.
     ends_with o c.args.request c.from_residual-in_err-written.result c.in_err-written.field-0.0
     c.from_residual-in_err-written.ensures.1 (refused o _ _ _ _ c.in_err-written.ensures.taken)
+
+pub returns-in_err-refuse_replaced : goal.returns-in_err-refuse_replaced
+returns-in_err-refuse_replaced g c = λ o script output.
+    ends_with o c.args.request c.from_residual-in_err-refuse_replaced.result c.in_err-refuse_replaced.field-0.0
+    c.from_residual-in_err-refuse_replaced.ensures.1
+    (changed_since o c.args.request _ _ c.in_ok-written.written _ c.in_ok-written.ensures.taken
+    c.in_err-refuse_replaced.ensures.fault)

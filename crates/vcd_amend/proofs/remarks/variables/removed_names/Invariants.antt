@@ -1,11 +1,9 @@
-use Rattle.std.proofs.Common.{◌≡◌, List, map, take}
+use Rattle.std.proofs.Common.{◌≡◌, map, take}
 use Rattle.vcd_text.specs.AsDeclared.{declared_name}
-use Rattle.vcd_text.specs.Grammar.{VariableDeclaration}
-use Rattle.vcd_amend.specs.OutputRemarks.{is_removed_apart}
-use Rattle.vcd_amend.specs.inside.OutputRemarks.{HaveCodesOf, fate_in_memory, variables_by_fate}
+use Rattle.vcd_amend.specs.OutputRemarks.{is_removed_by}
+use Rattle.vcd_amend.specs.inside.OutputRemarks.{fate_in_memory, variables_by_fate}
 use Rattle.vcd_amend.proofs.remarks.variables.removed_names.Given as goal
 
 abbrev pub invariant-loop-variable : goal.invariant-loop-variable
-invariant-loop-variable l = (left : List VariableDeclaration) → HaveCodesOf l.uses left
-    → l.names.items ≡ map declared_name
-    (variables_by_fate (is_removed_apart left) (map fate_in_memory (take l.variable-index l.fated)))
+invariant-loop-variable l = l.names.items
+    ≡ map declared_name (variables_by_fate is_removed_by (map fate_in_memory (take l.variable-index l.fated)))

@@ -2,12 +2,14 @@ use Rattle.std.proofs.Common.{◌≡◌, ◌∙◌, ◌∷◌, [], ◌++◌, sym
 use Rattle.std.specs.Prelude.{Ok, Err}
 use Rattle.vcd_text.specs.Grammar.{ParseState}
 use Rattle.vcd_text.specs.Pieces.{piece_bytes, state_of_pieces}
+use Rattle.vcd_text.specs.Copied.{may_be_amended}
 use Rattle.vcd_text.proofs.shared.EmittedParts.{writes_as, writes_both, writes_none}
 use Rattle.vcd_part.specs.PartPieces.{comment_piece}
 use Rattle.vcd_part.specs.inside.PartAmender.{window_of, refusal_of}
 use Rattle.vcd_part.proofs.amender.Decided.{answer_in}
 use Rattle.vcd_part.proofs.amender.Ended.{out_of_body, no_window_before, no_refusal_before, ended_bytes}
 use Rattle.vcd_part.proofs.amender.Ended.{refused_end_bytes, end_seen, same_timescale}
+use Rattle.vcd_part.proofs.amender.Comments.{counted_amended}
 use Rattle.vcd_part.proofs.amender.Waiting.{seen_with, settled_out}
 use Rattle.vcd_part.proofs.amender.PartAmender.end_declarations.Goals as goal
 
@@ -42,6 +44,7 @@ returns-in-Ok-clause-seen g c = λ limit before p depth code scopes seen taken.
     (end_seen limit m before p _ _ (Some c.in-Ok.window) m.refusal seen.known taken.shown.next is
     (ap window_of (sym answer)) (no_refusal_before m before seen.known out ∙ ap refusal_of (sym answer)))
     (seen.waiting ∙ ap piece_bytes (settled.before_it ∙ sym settled.none))
+    (counted_amended m.comments before p (ap may_be_amended is) seen.comments)
 
 pub returns-in-Err-clause-written : goal.returns-in-Err-clause-written
 returns-in-Err-clause-written g c = λ limit before p depth code scopes seen taken.
@@ -68,3 +71,4 @@ returns-in-Err-clause-seen g c = λ limit before p depth code scopes seen taken.
     (end_seen limit m before p _ _ m.window (Some c.in-Err.refusal) seen.known taken.shown.next is
     (no_window_before m before seen.known out ∙ ap window_of (sym answer)) (ap refusal_of (sym answer)))
     (seen.waiting ∙ ap piece_bytes (settled.before_it ∙ sym settled.none))
+    (counted_amended m.comments before p (ap may_be_amended is) seen.comments)

@@ -17,4 +17,5 @@ returns-clause-seen c = record {
     holds = λ w never up. absurd (cc);
   };
   waiting = c.new-3.ensures.items;
+  comments = refl;
 }

@@ -10,6 +10,7 @@ use Rattle.vcd_part.proofs.amender.States.{next_some}
 use Rattle.vcd_part.proofs.amender.ChangeItems.{change_is}
 use Rattle.vcd_part.proofs.amender.Decided.{one_stands}
 use Rattle.vcd_part.proofs.amender.Written.{change_pieces, early_change_pieces, change_passes, change_past_first}
+use Rattle.vcd_part.proofs.amender.Comments.{counted_amended}
 use Rattle.vcd_part.proofs.amender.Waiting.{seen_with, seen_without, bytes_without}
 use Rattle.vcd_part.proofs.shared.PutPieces.{bytes_of_both}
 use Rattle.vcd_part.proofs.shared.SettledPieces.{one_settled, none_waits}
@@ -32,7 +33,8 @@ returns-then-is_up_to_first-clause-goes c = λ goes limit before p seen next is.
           (change_passes limit m m.codes before p c.args.is_text code _ _ known next is known.uses
           (λ w window up. c.is_held.ensures (not_held c.is_held.result (sym c.held_place.ensures ∙ goes)) m.request
           s.declared before p known.uses (known.holds w window up) is (next_some limit before p p.space p.body next)))
-          seen.waiting,
+          seen.waiting (counted_amended m.comments before p (change_is p.item c.args.is_text code is).amended
+          seen.comments),
     )
 
 pub returns-then-not-is_in_part-clause-goes : goal.returns-then-not-is_in_part-clause-goes
@@ -47,7 +49,8 @@ returns-then-not-is_in_part-clause-goes c = λ goes limit before p seen next is.
       bytes_without m.request before p none,
       seen_without m m.waiting before p none
           (change_past_first limit m before p c.args.window c.args.is_text code _ _ known next is c.requires
-          (sym c.is_up_to_first.ensures ∙ c.if-is_up_to_first.false)) seen.waiting,
+          (sym c.is_up_to_first.ensures ∙ c.if-is_up_to_first.false)) seen.waiting
+          (counted_amended m.comments before p (change_is p.item c.args.is_text code is).amended seen.comments),
     )
 
 pub returns-then-is_empty-clause-stands : goal.returns-then-is_empty-clause-stands
@@ -69,5 +72,6 @@ returns-then-is_empty-clause-stands c = λ stands limit before p seen next is.
       seen_with m m.waiting before p (p ∷ []) pieces
           (change_past_first limit m before p c.args.window c.args.is_text code _ _ known next is c.requires
           (sym c.is_up_to_first.ensures ∙ c.if-is_up_to_first.false))
-          (empty ∙ ap piece_bytes (sym (none_waits w p isnt))),
+          (empty ∙ ap piece_bytes (sym (none_waits w p isnt)))
+          (counted_amended m.comments before p (change_is p.item c.args.is_text code is).amended seen.comments),
     )

@@ -11,6 +11,7 @@ use Rattle.vcd_part.proofs.amender.States.{later_stamp, next_allowed}
 use Rattle.vcd_part.proofs.amender.Steps.{stamp_seen}
 use Rattle.vcd_part.proofs.amender.Decided.{answer_with_window, window_means_body, pieces_in_body, stamp_pieces_are}
 use Rattle.vcd_part.proofs.amender.Decided.{stamp_goes}
+use Rattle.vcd_part.proofs.amender.Comments.{counted_amended}
 use Rattle.vcd_part.proofs.amender.Waiting.{seen_without, bytes_without}
 use Rattle.vcd_part.proofs.amender.PartAmender.settle_stamp.Goals as goal
 
@@ -40,5 +41,6 @@ returns-clause-goes c = λ yes limit before p code seen next.
     ∙ stamp_goes m.request s before p w tick (decided_in_order m.request s.timescale s.declared w answer) later out in (
       bytes_without m.request before p none,
       seen_without (record m { tick = tick }) m.waiting before p none
-          (stamp_seen limit m before p tick p.space p.body seen.known next.next next.shows) seen.waiting,
+          (stamp_seen limit m before p tick p.space p.body seen.known next.next next.shows) seen.waiting
+          (counted_amended m.comments before p (ap may_be_amended is) seen.comments),
     )

@@ -7,6 +7,7 @@ use Rattle.vcd_part.proofs.amender.States.{next_some}
 use Rattle.vcd_part.proofs.amender.ChangeItems.{change_is}
 use Rattle.vcd_part.proofs.amender.Written.{change_pieces, refused_change_pieces, early_change_pieces, change_passes}
 use Rattle.vcd_part.proofs.amender.Written.{change_past_first, on_error}
+use Rattle.vcd_part.proofs.amender.Comments.{counted_amended}
 use Rattle.vcd_part.proofs.amender.Waiting.{seen_with, seen_without, bytes_without}
 use Rattle.vcd_part.proofs.shared.PutPieces.{put_as}
 use Rattle.vcd_part.proofs.amender.PartAmender.take_change.Goals as goal
@@ -25,6 +26,7 @@ returns-in_default-clause-seen g c = λ limit before p seen next is.
     (refused_change_pieces limit m before p c.args.is_text code _ _ seen.known next is c.in_default.is)
     (change_passes limit m m.codes before p c.args.is_text code _ _ seen.known next is seen.known.uses
     (λ w known up. absurd (c.in_default.not-Some w known))) seen.waiting
+    (counted_amended m.comments before p (change_is p.item c.args.is_text code is).amended seen.comments)
 
 pub returns-in_err-hold-clause-more : goal.returns-in_err-hold-clause-more
 returns-in_err-hold-clause-more g c = on_error _ more_none
@@ -48,6 +50,7 @@ returns-then-is_up_to_first-clause-seen g c = λ limit before p seen next is.
     (c.in_ok-hold.ensures.uses m.request s.declared known.uses)
     (λ w window up. c.in_ok-hold.ensures.holds m.request s.declared before p known.uses (known.holds w window up) is
     next.body_is (subst (λ (l : List ℕ). 0 < length l) next.body_is (next_some limit before p _ _ next)))) seen.waiting
+    (counted_amended m.comments before p (change_is p.item c.args.is_text code is).amended seen.comments)
 
 pub returns-clause-written : goal.returns-clause-written
 returns-clause-written g c = λ limit before p seen next is.
@@ -71,3 +74,4 @@ returns-clause-seen g c = λ limit before p seen next is.
     (sym c.is_up_to_first.ensures ∙ c.if-is_up_to_first.false))
     (c.write_change_if.ensures p (change_is p.item c.args.is_text code is).no_stamp next.space_is next.body_is
     (waiting_stamp m.request before) seen.waiting).1
+    (counted_amended m.comments before p (change_is p.item c.args.is_text code is).amended seen.comments)

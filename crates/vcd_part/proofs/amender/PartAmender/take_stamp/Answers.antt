@@ -14,6 +14,7 @@ use Rattle.vcd_part.proofs.amender.Steps.{stamp_seen}
 use Rattle.vcd_part.proofs.amender.StampPieces.{stamp_put}
 use Rattle.vcd_part.proofs.amender.Decided.{answer_with_window, answer_without_window, window_means_body}
 use Rattle.vcd_part.proofs.amender.Decided.{pieces_in_body, stamp_pieces_are}
+use Rattle.vcd_part.proofs.amender.Comments.{counted_amended}
 use Rattle.vcd_part.proofs.amender.Waiting.{seen_with, seen_without, bytes_without}
 use Rattle.vcd_part.proofs.shared.PutPieces.{put_as}
 use Rattle.vcd_part.proofs.amender.PartAmender.take_stamp.Goals as goal
@@ -42,6 +43,7 @@ returns-in_default-clause-seen g c = λ limit before p code scopes seen taken.
     ∙ ap (λ (i : Item). body_in_part m.request s before p i (Err refusal)) is in
     seen_without (record m { tick = c.args.tick }) m.waiting before p none
     (stamp_seen limit m before p c.args.tick _ _ seen.known taken.shown.next taken.shown.shows) seen.waiting
+    (counted_amended m.comments before p (ap may_be_amended is) seen.comments)
 
 pub returns-clause-written : goal.returns-clause-written
 returns-clause-written g c = on_ok_weaker c.put_stamp.result (λ put limit before p code scopes seen taken.
@@ -86,7 +88,8 @@ returns-clause-seen g c = on_ok_weaker c.put_stamp.result (λ put limit before p
     seen_with (record m { tick = tick }) c.put_stamp.new.waiting before p _ pieces
     (stamp_seen limit m before p tick _ _ seen.known next taken.shown.shows)
     (stamp_put g.W.Sink _ _ _ _ _ _ m.request s before p w m.tick tick _ same due first
-    (put p digits is (sym number) next.space_is next.body_is) (waiting_stamp m.request before) seen.waiting).1)
+    (put p digits is (sym number) next.space_is next.body_is) (waiting_stamp m.request before) seen.waiting).1
+    (counted_amended m.comments before p (ap may_be_amended is) seen.comments))
     c.put_stamp.ensures.put
 
 pub returns-clause-more : goal.returns-clause-more

@@ -52,5 +52,5 @@ returns-in-None-clause-ended g c = λ limit before p known begun seen ends unwri
           (last_part (stands_open c.args.earlier) first (c.args.held.now.bytes.items ++ begun) (p.space ++ p.body)
           (λ still. (held still).0))
           (c.let_stand.ensures.stands before known begun seen unwritten),
-      c.pass.ensures.seen limit before p seen ends.next stands,
+      c.pass.ensures.seen limit before p seen ends.next stands (c.is_comment_or_other.ensures ∙ ends.free),
     )

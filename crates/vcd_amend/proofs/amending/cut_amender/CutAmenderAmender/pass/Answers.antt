@@ -9,7 +9,7 @@ use Rattle.vcd_amend.proofs.amending.CutSteps.{plain_seen, lasts_as, kept_as}
 use Rattle.vcd_amend.proofs.amending.cut_amender.CutAmenderAmender.pass.Goals as goal
 
 pub returns-clause-seen : goal.returns-clause-seen
-returns-clause-seen g c = λ limit before p at next not_it.
+returns-clause-seen g c = λ limit before p at next not_it free.
     let m = c.args.self.now in
     let a = amendment_contents m.inner.amendment.now in
     let sent = sent_for (cut_of m) before in

@@ -1,7 +1,7 @@
 -- The bytes that are left follow those that were copied.
 use Rattle.std.proofs.Common.{◌≡◌, ◌++◌, length}
 use Rattle.vcd_core.specs.FullName.{name_bytes}
-use Rattle.vcd_part.proofs.removed.copy_name.Given as goal
+use Rattle.vcd_part.proofs.named_variable.copy_name.Given as goal
 
 abbrev pub invariant-loop-byte : goal.invariant-loop-byte
 invariant-loop-byte l = l.text.items ++ name_bytes l.left ≡ name_bytes l.fn.name

@@ -1,0 +1,2 @@
+-- Lemmas of `scope_paths`.
+pub mod NotedPaths

@@ -1,0 +1,66 @@
+//! Variables by their names.
+
+ghost use Rattle.std.specs.Prelude.{◌≡◌, ◌++◌, ◌∷◌, [], IfOk, OnOk, if◌then◌else◌};
+ghost use Rattle.vcd_core.specs.FullName.{name_bytes};
+
+use std::alloc::Global;
+use vcd_core::{FullName, NoMemory, Seq, Word, copy_word};
+
+/// A variable by its name and its code.
+#[derive(Drop)]
+pub struct NamedVariable {
+    /// Its full name.
+    pub name: Word,
+    pub code: Word,
+}
+
+/// Adds a variable with this full name and code, if it counts.
+pub fn note_named_variable(
+    alloc: Global,
+    variables: &mut Vec<NamedVariable>,
+    counts: bool,
+    name: FullName<'_>,
+    code: &[u8],
+) -> Result<(), NoMemory>
+    ensures { OnOk result (variables.new.items ≡ (if counts then variables.old.items
+        ++ record { name = name_bytes name.entry; code = code.now } ∷ []
+        else variables.old.items)) }
+{
+    if !counts {
+        return Ok(());
+    }
+    variables.push(NamedVariable {
+        name: copy_name(alloc, name)?,
+        code: copy_word(alloc, code)?,
+    })?;
+    Ok(())
+}
+
+/// Adds this full name, if it counts.
+pub fn note_name(
+    alloc: Global,
+    names: &mut Vec<Word>,
+    counts: bool,
+    name: FullName<'_>,
+) -> Result<(), NoMemory>
+    ensures { OnOk result (names.new.items ≡ (if counts
+        then names.old.items ++ name_bytes name.entry ∷ [] else names.old.items)) }
+{
+    if !counts {
+        return Ok(());
+    }
+    names.push(copy_name(alloc, name)?)?;
+    Ok(())
+}
+
+/// The bytes of a full name, in memory of their own.
+fn copy_name(alloc: Global, name: FullName<'_>) -> Result<Word, NoMemory>
+    ensures { IfOk result (λ word. word ≡ name_bytes name.entry) }
+{
+    let mut left = name;
+    let mut text = Vec::new(alloc);
+    while let Some(byte) = left.next_byte() {
+        text.push(byte)?;
+    }
+    Ok(Seq::from_vec(text))
+}
