@@ -23,6 +23,7 @@ BUS = [
     ("S 101000x 0 0 0000000x 0 00000001 x P", ["?|? 0x01|ack ack ?|stop"]),
     ("S 1010000 0 0 10101 P S P", ["0x50 write|partial-6|ack|stop", "|||stop"]),
     ("S 1010000 0 0 00000001 0", ["0x50 write|0x01|ack ack|"]),
+    ("x P S 1010000 0 0 P", ["|||stop", "0x50 write||ack|stop"]),
 ]
 # A tick, a timescale, and microseconds.
 TIMES = [
@@ -39,13 +40,15 @@ SPI_ROWS = """line  decoder  first  last  first_us  last_us  what       mosi
 2     spi      9      11    0.09      0.11     word       ?
 """
 SPI_LINES = ["spi c d - - 0 4 msb", "spi c d - - 0 2 msb"]
-REMARK = "spi: MOSI is x or z at 10-20: edges and bits there are lost"
+REMARKS = ["spi: MOSI is x or z at 10-20: edges and bits there are lost",
+           "spi: without CS words are counted from tick 0: if one began before, all may be wrong"]
 UART, GLITCHES = (os.path.join(EXAMPLES, name, "capture.vcd") for name in ("sigrok-uart", "glitches"))
 # Words, the status, and a part of what is told, or nothing. Where the status is not 0, there is no table.
 TOLD = [
     ([UART, "uart libsigrok.rx 115200 8 none 1"], 0,
      "vcdedit-table: line 1: uart: is 115200 a baud rate? BIT is how many ticks a bit lasts: 78125/9\n"),
-    ([UART, "uart libsigrok.rx 9600 8 none 1"], 0, ""),
+    ([UART, "uart libsigrok.rx 9600 8 none 1"], 0,
+     "vcdedit-table: line 1: uart: the line is not idle for a frame from tick 0 on: "),
     ([UART, "value libsigrok.rx 0"], 0, "no line decodes: write uart, spi or i2c, as in 'i2c bench.scl bench.sda'"),
     ([GLITCHES, "deglitch bench.rx 3us"], 1, "BadNumber\n    3us: write 3\n"),
     ([GLITCHES, "shift bench.rx 3.5us"], 1, "BadNumber\n    3.5us is between tick 3 and the next: write ticks\n"),
@@ -93,9 +96,9 @@ def check(program, folder):
     store(folder, "script", text="\n".join(["# asks", SPI_LINES[0], "list"]))
     yield "the names of none", table("-", "--script", "script", given="$enddefinitions $end")[0] == 1
     found = table("-", *SPI_LINES, given=SPI)
-    told = "".join("vcdedit-table: line %d: %s\n" % (number, REMARK) for number in (1, 2))
+    told = "".join("vcdedit-table: line %d: %s\n" % (number, remark) for number in (1, 2) for remark in REMARKS)
     yield "aligned: %s" % (found,), found == (0, SPI_ROWS, told)
-    yield "remarks in a file", table("-", "--csv", *SPI_LINES, given=SPI)[1].count("," + REMARK) == 5
+    yield "remarks in a file", table("-", "--csv", *SPI_LINES, given=SPI)[1].count(',"%s"' % "; ".join(REMARKS)) == 5
     yield "no rows", [table(I2C, *form, "list")[1] for form in ([], ["--json"])] == ["", "[\n]\n"]
     tool = module_of("tools/vcdedit-table")
     for tick, timescale, wanted in TIMES:
@@ -106,6 +109,7 @@ def check(program, folder):
         found = table(*words)
         right = found[0] == status and (status == 0 or found[1] == "") and told in found[2]
         yield "%s: %s" % (words, found), right and bool(told) == bool(found[2])
+    yield "no rate where bytes were found", "baud" not in table(UART, "uart libsigrok.rx 9600 8 none 1")[2]
     path = os.pathsep.join([os.path.join(TOP, "tools"), os.environ["PATH"]])
     words = [sys.executable, "-B", "-c", "import test_bus; test_bus.test_register_is_read()"]
     found = run(words, cwd=TOP, env={**environment, "PATH": path, "PYTHONPATH": EXAMPLES})

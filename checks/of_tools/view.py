@@ -13,6 +13,7 @@ TOOL = os.path.join(TOP, "tools/vcdedit-view")
 I2C, I2C_LINE = os.path.join(EXAMPLES, "i2c/capture.vcd"), "i2c bench.scl bench.sda"
 GLITCHES, UART_LINE = os.path.join(EXAMPLES, "glitches/capture.vcd"), "uart bench.rx 10 8 none 1"
 NO_ROW = "line %d: uart: no row: a later line edits what it decodes (see --before)"
+WITHOUT_CS = "line 1: spi: without CS words are counted from tick 0: if one began before, all may be wrong"
 ODD = "GTKWave may not show: %s"
 
 
@@ -23,21 +24,21 @@ def text(names, changes):
 
 
 # A capture and lines; what is told; the rows: tick and text of each change.
-BYTE, LINE = text("r", "0! #10 1! #28 0! #40"), "uart r 2 8 none 1"
+BYTE, LINE = text("r", "0! #20 1! #38 0! #50"), "uart r 2 8 none 1"
 ROWS = {
     "frames that touch, the last up to the end": (
-        text("r", "1! #10 0! #28 1! #30 0! #48 1! #49"), [LINE], [], {"uart": "0 -|10 byte_0x00|30 byte_0x00"}),
+        text("r", "1! #20 0! #38 1! #40 0! #58 1! #59"), [LINE], [], {"uart": "0 -|20 byte_0x00|40 byte_0x00"}),
     "frames of one tick, the last at the end": (
-        text("c d", '0! 1" #3 1! #5 0! #6 1!'), ["spi c d - - 0 1 msb"], [],
+        text("c d", '0! 1" #3 1! #5 0! #6 1!'), ["spi c d - - 0 1 msb"], [WITHOUT_CS],
         {"spi": "0 -|3 word_mosi_0x1|4 -|6 word_mosi_0x1"}),
     "a decoder among edits": (BYTE, ["invert r", LINE, "undo"], [NO_ROW % 2], {}),
     "a decoder among edits that come to nothing": (
-        BYTE, ["invert r", LINE, "invert r", "undo"], [], {"uart": "0 -|10 byte_0x00|30 -"}),
+        BYTE, ["invert r", LINE, "invert r", "undo"], [], {"uart": "0 -|20 byte_0x00|40 -"}),
     "a decoder before an edit of another line": (
-        text("r c", '1! 0" #10 0! #28 1! #40'), [LINE, "invert c", "uart @0 2 8 none 1"], [],
-        {"uart": "0 -|10 byte_0x00|30 -", "uart_2": "0 -|10 byte_0x00|30 -"}),
+        text("r c", '1! 0" #20 0! #38 1! #50'), [LINE, "invert c", "uart @0 2 8 none 1"], [],
+        {"uart": "0 -|20 byte_0x00|40 -", "uart_2": "0 -|20 byte_0x00|40 -"}),
     "a decoder of a signal that gets another place": (
-        text("r c", '1! 1" #10 0! 0" #28 1! 1" #40'), ["uart @1 2 8 none 1", "remove r"], [NO_ROW % 1], {}),
+        text("r c", '1! 1" #20 0! 0" #38 1! 1" #50'), ["uart @1 2 8 none 1", "remove r"], [NO_ROW % 1], {}),
     "a bus, in a capture of a simulator": (load(I2C).decode(), [I2C_LINE], [], {
         "i2c": "0 -|22 address_0x50_write|93 -|112 data_0x2a|183 -|212 address_0x50_read|283 -|302 data_0xc5|373 -",
         "i2c_conditions": "0 -|15 start|102 ack|192 ack|205 repeated-start|292 ack|382 nack|395 stop"}),
