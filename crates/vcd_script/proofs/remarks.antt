@@ -3,6 +3,7 @@ pub mod RemarksInTurn
 pub mod RunsLeft
 pub mod PulsesFound
 pub mod DelaysFound
+pub mod StretchesFound
 pub mod ShortRunsLeft
 pub mod PlacesShown
 pub mod FallsLeft

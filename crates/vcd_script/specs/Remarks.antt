@@ -2,7 +2,7 @@
 -- decoder can't read its lines, what of it may have begun before tick 0, and what the end leaves of
 -- a transfer. The project's own.
 use Rattle.std.specs.Prelude.{ℕ, zero, ◌+◌, ◌-◌, ◌==◌, ◌&&◌, ◌||◌, nat_lt, nat_le, int_lt, ℤ}
-use Rattle.std.specs.Prelude.{pos, ◌+ℤ◌}
+use Rattle.std.specs.Prelude.{pos, ◌+ℤ◌, unsigned_abs, min}
 use Rattle.std.specs.Prelude.{max, Bool, true, false, not, if◌then◌else◌, Option, Some, None}
 use Rattle.std.specs.Prelude.{is_some, List, [], ◌∷◌, ◌++◌, map, take, length, codes}
 use Rattle.std.specs.List.{filter, flat_map, count_by, join_by}
@@ -88,6 +88,27 @@ abbrev pub deglitch_remark : (pulses : List ValueRun) → List ℕ
 deglitch_remark pulses =
     codes "deglitch: pulses removed: " ++ decimal (length pulses) ++ longest_text pulses
 
+-- a remark that ends with a number; none if that is 0
+abbrev pub count_remark : List ℕ → ℕ → List (List ℕ)
+count_remark text zero = []
+count_remark text count = (text ++ decimal count) ∷ []
+
+-- how many ticks there are between runs in turn
+unfoldable pub stretches : List ValueRun → List ℕ
+stretches (before ∷ r ∷ rs) = (r.first - before.last - 1) ∷ stretches (r ∷ rs)
+stretches rs = []
+
+-- the ticks of the longest stretch that a `deglitch` takes out, between two runs that stay
+abbrev pub longest_stretch : (ticks end : ℕ) → List ValueRun → ℕ
+longest_stretch ticks end runs =
+    greatest (stretches (filter (λ r. not (is_pulse ticks end r)) runs))
+
+-- the remark on the longest stretch; none if it has fewer ticks than a run that stays
+abbrev pub stretch_remark : (ticks longest : ℕ) → List (List ℕ)
+stretch_remark ticks longest =
+    count_remark (codes "deglitch: ticks of the longest stretch removed, which pulses broke up: ")
+    (if nat_lt longest ticks then 0 else longest)
+
 -- by how many ticks at most the edge from a run that stays to the next one is late: those of the
 -- pulses between them, if any. 0 if both runs have one value: there is no edge
 abbrev pub edge_delay : (before : ValueRun) → ValueRun → ℕ
@@ -114,11 +135,6 @@ delays_remark delays =
     (codes "deglitch: edges right after removed pulses: " ++ decimal (length delays)
     ++ delay_text (greatest delays)) ∷ []
 
--- a remark that ends with a number; none if that is 0
-abbrev pub count_remark : List ℕ → ℕ → List (List ℕ)
-count_remark text zero = []
-count_remark text count = (text ++ decimal count) ∷ []
-
 -- whether a run has fewer ticks and is no pulse, since it contains tick 0 or the end
 abbrev pub stays_short : (ticks end : ℕ) → ValueRun → Bool
 stays_short ticks end r = nat_lt (ticks_of_run r) ticks && not (is_pulse ticks end r)
@@ -126,17 +142,28 @@ stays_short ticks end r = nat_lt (ticks_of_run r) ticks && not (is_pulse ticks e
 -- the remarks on a `deglitch` of a signal with these runs
 abbrev pub deglitch_remarks : (ticks end : ℕ) → List ValueRun → List (List ℕ)
 deglitch_remarks ticks end runs = deglitch_remark (filter (is_pulse ticks end) runs)
-    ∷ delays_remark (delays_after_pulses ticks end runs)
+    ∷ stretch_remark ticks (longest_stretch ticks end runs)
+    ++ delays_remark (delays_after_pulses ticks end runs)
     ++ count_remark (codes "deglitch: short runs at tick 0 or the end, which stay: ")
     (count_by (stays_short ticks end) runs)
+
+-- whether a shift by so many ticks moves an edge before tick 0. A change at tick 0 is no edge
+abbrev pub is_moved_before_zero : (by : ℤ) → Change → Bool
+is_moved_before_zero by c = nat_lt 0 c.tick && int_lt (pos c.tick +ℤ by) (pos 0)
+
+-- how many ticks at the end have the last value only since a shift moves it there
+abbrev pub ticks_filled : (end : ℕ) → (by : ℤ) → ℕ
+ticks_filled end by = if int_lt by (pos 0) then min (unsigned_abs by) (end + 1) else 0
 
 -- the remarks on a `shift` of these changes, in a capture up to this end
 abbrev pub shift_remarks : (end : ℕ) → (by : ℤ) → List Change → List (List ℕ)
 shift_remarks end by changes =
     count_remark (codes "shift: changes moved past the end: ")
     (count_by (λ c. int_lt (pos end) (pos c.tick +ℤ by)) changes)
-    ++ count_remark (codes "shift: changes moved before tick 0: ")
-    (count_by (λ c. int_lt (pos c.tick +ℤ by) (pos 0)) changes)
+    ++ count_remark (codes "shift: edges moved before tick 0: ")
+    (count_by (is_moved_before_zero by) changes)
+    ++ count_remark (codes "shift: ticks at the end filled with the last value: ")
+    (ticks_filled end by)
 
 -- the remark on a cut from this tick on; a cut from tick 0 on joins nothing
 abbrev pub cut_remarks : (from : ℕ) → List (List ℕ)

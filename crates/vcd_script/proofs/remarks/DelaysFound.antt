@@ -19,7 +19,7 @@ use Rattle.vcd_script.specs.inside.remarks.Parts.{delays_lines}
 use Rattle.vcd_script.proofs.remarks.RunsLeft.{runs_left, no_runs_left}
 
 -- the runs that stay
-abbrev staying : (ticks end : ℕ) → List ValueRun → List ValueRun
+abbrev pub staying : (ticks end : ℕ) → List ValueRun → List ValueRun
 staying ticks end rs = filter (λ r. not (is_pulse ticks end r)) rs
 
 -- the delays that count

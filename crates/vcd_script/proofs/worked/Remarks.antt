@@ -18,7 +18,7 @@ use Rattle.vcd_edit.specs.EditFaults.{edit_fault}
 use Rattle.vcd_edit.proofs.worked.Records.{from, wire, capture, alone}
 use Rattle.vcd_journal.specs.declared.step.Step.TheVariants as steps
 use Rattle.vcd_script.specs.declared.script.command.Command.TheVariants as commands
-use Rattle.vcd_script.specs.Remarks.{runs_begun, greatest, edge_delays, has_fall, remarks}
+use Rattle.vcd_script.specs.Remarks.{runs_begun, greatest, stretches, edge_delays, has_fall, remarks}
 
 -- x up to the tick 1, pulses at 5, 7 and 9, and no change at 0
 abbrev rough : List Change
@@ -32,47 +32,50 @@ remarks_on_edit e = remarks (alone 20 rough) (commands.Step (steps.Edit e))
 
 -- the run of 0 from 2 to 4 has three ticks, and stays; x has two, and stays at tick 0
 three_pulses : remarks_on_edit (Deglitch 0 3) ≡ codes "deglitch: pulses removed: 3 (ticks of the longest: 2)"
+    ∷ codes "deglitch: ticks of the longest stretch removed, which pulses broke up: 5"
     ∷ codes "deglitch: short runs at tick 0 or the end, which stay: 1" ∷ []
-unfolding remarks edit_fault runs_begun greatest edge_delays digits
+unfolding remarks edit_fault runs_begun greatest stretches edge_delays digits
 three_pulses = refl
 
 no_pulse : remarks_on_edit (Deglitch 0 1) ≡ codes "deglitch: pulses removed: 0" ∷ []
-unfolding remarks edit_fault runs_begun greatest edge_delays digits
+unfolding remarks edit_fault runs_begun greatest stretches edge_delays digits
 no_pulse = refl
 
 -- the run of 0 from 2 to 4 is a pulse too, between x up to 1 and 0 from 10 on
 four_pulses : remarks_on_edit (Deglitch 0 4) ≡ codes "deglitch: pulses removed: 4 (ticks of the longest: 3)"
+    ∷ codes "deglitch: ticks of the longest stretch removed, which pulses broke up: 8"
     ∷ codes "deglitch: edges right after removed pulses: 1 (late by at most 8 ticks)"
     ∷ codes "deglitch: short runs at tick 0 or the end, which stay: 1" ∷ []
-unfolding remarks edit_fault runs_begun greatest edge_delays digits
+unfolding remarks edit_fault runs_begun greatest stretches edge_delays digits
 four_pulses = refl
 
 -- a line that bounces before it is 1 from 3 on, and before it is 0 from 13 on
 two_edges : remarks (alone 20 (from 0 Zero ∷ from 1 One ∷ from 2 Zero ∷ from 3 One ∷ from 10 Zero ∷ from 11 One
     ∷ from 13 Zero ∷ [])) (commands.Step (steps.Edit (Deglitch 0 3)))
     ≡ codes "deglitch: pulses removed: 4 (ticks of the longest: 2)"
+    ∷ codes "deglitch: ticks of the longest stretch removed, which pulses broke up: 3"
     ∷ codes "deglitch: edges right after removed pulses: 2 (late by at most 3 ticks)"
     ∷ codes "deglitch: short runs at tick 0 or the end, which stay: 1" ∷ []
-unfolding remarks edit_fault runs_begun greatest edge_delays digits
+unfolding remarks edit_fault runs_begun greatest stretches edge_delays digits
 two_edges = refl
 
 -- a window that begins and ends within spikes
 spikes_at_both_ends : remarks (alone 20 (from 0 One ∷ from 2 Zero ∷ from 19 One ∷ []))
     (commands.Step (steps.Edit (Deglitch 0 5))) ≡ codes "deglitch: pulses removed: 0"
     ∷ codes "deglitch: short runs at tick 0 or the end, which stay: 2" ∷ []
-unfolding remarks edit_fault runs_begun greatest edge_delays digits
+unfolding remarks edit_fault runs_begun greatest stretches edge_delays digits
 spikes_at_both_ends = refl
 
 -- the one run of a line without a change contains both ends, and has 21 ticks
 one_short_run : remarks (alone 20 []) (commands.Step (steps.Edit (Deglitch 0 22)))
     ≡ codes "deglitch: pulses removed: 0"
     ∷ codes "deglitch: short runs at tick 0 or the end, which stay: 1" ∷ []
-unfolding remarks edit_fault runs_begun greatest edge_delays digits
+unfolding remarks edit_fault runs_begun greatest stretches edge_delays digits
 one_short_run = refl
 
 -- a refused edit has no remark
 refused : remarks_on_edit (Deglitch 0 0) ≡ []
-unfolding remarks edit_fault runs_begun greatest edge_delays digits
+unfolding remarks edit_fault runs_begun greatest stretches edge_delays digits
 refused = refl
 
 -- the change at 15 comes to 20, which is the end, and then past it
@@ -85,9 +88,16 @@ unfolding remarks edit_fault digits
 past_the_end = refl
 
 -- the change at 5 comes to tick 0
-before_zero : remarks_on_edit (Shift 0 (negsuc 4)) ≡ codes "shift: changes moved before tick 0: 1" ∷ []
+before_zero : remarks_on_edit (Shift 0 (negsuc 4)) ≡ codes "shift: edges moved before tick 0: 1"
+    ∷ codes "shift: ticks at the end filled with the last value: 5" ∷ []
 unfolding remarks edit_fault digits
 before_zero = refl
+
+-- a change at tick 0 is no edge
+no_edge_at_zero : remarks (alone 20 (from 0 One ∷ [])) (commands.Step (steps.Edit (Shift 0 (negsuc 99))))
+    ≡ codes "shift: ticks at the end filled with the last value: 21" ∷ []
+unfolding remarks edit_fault digits
+no_edge_at_zero = refl
 
 -- a cut from tick 0 on joins nothing
 joined : remarks_on_edit (Cut 4 9)

@@ -13,7 +13,7 @@ ghost use Rattle.vcd_script.specs.Remarks.{remarks_text};
 ghost use Rattle.vcd_script.specs.inside.remarks.Parts as inside;
 
 use crate::remarks::appending::{append_count_remark, append_remark_head};
-use crate::remarks::pulses::{Spans, delays_in, pulses_in, short_runs_in};
+use crate::remarks::pulses::{Spans, delays_in, longest_stretch_in, pulses_in, short_runs_in};
 use crate::remarks::runs::changes_at;
 use crate::replies::MemoryResult;
 use crate::replies::appending::{append_bytes, append_decimal};
@@ -76,6 +76,7 @@ fn append_deglitch_remarks(
     let x = x_value_at(capture, signal);
     let end = capture.end();
     append_pulses_remark(text, number, pulses_in(changes, end, ticks))?;
+    append_stretch_remark(text, number, ticks, longest_stretch_in(changes, end, ticks))?;
     append_delays_remark(text, number, delays_in(changes, &x, end, ticks))?;
     let short = short_runs_in(changes, end, ticks);
     append_count_remark(
@@ -106,6 +107,25 @@ fn append_pulses_remark(text: &mut Vec<u8>, number: u64, pulses: Spans) -> Memor
     append_pulses(text, pulses)?;
     append_bytes(text, b"\n")?;
     Ok(())
+}
+
+/// Appends the remark on the longest stretch of pulses, unless it has fewer ticks than a run that
+/// stays.
+fn append_stretch_remark(
+    text: &mut Vec<u8>,
+    number: u64,
+    ticks: u64,
+    longest: u64,
+) -> MemoryResult<()>
+    ensures { OnOk result (text.new.items
+        ≡ text.old.items ++ remarks_text number (spec.stretch_remark ticks longest)) }
+{
+    append_count_remark(
+        text,
+        number,
+        b"deglitch: ticks of the longest stretch removed, which pulses broke up: ",
+        if longest < ticks { 0 } else { longest },
+    )
 }
 
 /// Appends how many pulses there are, and how long the longest is.
@@ -182,7 +202,13 @@ fn append_shift_remarks(
     let late = count_past_end(changes, end, by);
     append_count_remark(text, number, b"shift: changes moved past the end: ", late)?;
     let early = count_before_zero(changes, by);
-    append_count_remark(text, number, b"shift: changes moved before tick 0: ", early)?;
+    append_count_remark(text, number, b"shift: edges moved before tick 0: ", early)?;
+    append_count_remark(
+        text,
+        number,
+        b"shift: ticks at the end filled with the last value: ",
+        ticks_filled(end, by),
+    )?;
     Ok(())
 }
 
@@ -196,14 +222,24 @@ fn count_past_end(changes: &[Change], end: u64, by: i64) -> u64
         .count() as u64
 }
 
-/// How many changes are before tick 0 once they are `by` ticks later.
+/// How many edges are before tick 0 once they are `by` ticks later.
 fn count_before_zero(changes: &[Change], by: i64) -> u64
-    ensures { result ≡ count_by (λ c. int_lt (pos c.tick +ℤ by) (pos 0)) changes.now }
+    ensures { result ≡ count_by (spec.is_moved_before_zero by) changes.now }
 {
     changes
         .iter()
-        .filter(|change| moved_tick(change, by) < 0)
+        .filter(|change| change.tick > 0 && moved_tick(change, by) < 0)
         .count() as u64
+}
+
+/// How many ticks at the end have the last value only since it is `by` ticks later.
+fn ticks_filled(end: u64, by: i64) -> u64
+    ensures { result ≡ spec.ticks_filled end by }
+{
+    if by >= 0 {
+        return 0;
+    }
+    by.unsigned_abs().min(end.saturating_add(1))
 }
 
 /// The tick of a change once it is `by` ticks later, which may be past the end or before tick 0.

@@ -1,7 +1,8 @@
 //! The pulses that `deglitch` takes out, and the delays of the edges right after them: how many
-//! there are, and how long the longest is. And the runs that stay though they are as short.
+//! there are, and how long the longest is. And the longest stretch of pulses, and the runs that
+//! stay though they are as short.
 
-ghost use Rattle.std.specs.Prelude.{◌≡◌, ◌+◌, ◌≤◌, ◌<◌, ◌^◌, List, ◌∷◌, map, max, length};
+ghost use Rattle.std.specs.Prelude.{◌≡◌, ◌+◌, ◌-◌, ◌≤◌, ◌<◌, ◌^◌, List, ◌∷◌, map, max, length};
 ghost use Rattle.std.specs.Prelude.{if◌then◌else◌};
 ghost use Rattle.std.specs.List.{filter, count_by};
 ghost use Rattle.vcd_core.specs.declared.bit.Bit.{Bit};
@@ -104,6 +105,33 @@ fn pulse_ticks(change: &Change, later: &[Change], end: u64, ticks: u64) -> Optio
         return None;
     }
     Some(length)
+}
+
+/// How many ticks the longest stretch has that pulses of fewer than `ticks` ticks make, between two
+/// runs that stay.
+pub fn longest_stretch_in(changes: &[Change], end: u64, ticks: u64) -> u64
+    ensures { result ≡ greatest
+        (inside.stretches_after ticks end (spec.tick_before end changes.now) changes.now) }
+{
+    let mut longest = 0;
+    let mut last = tick_before(changes, end);
+    for i in 0..changes.len() {
+        let change = &changes[i];
+        let later = &changes[i + 1..];
+        if pulse_ticks(change, later, end, ticks).is_some() {
+            continue;
+        }
+        longest = with_stretch(longest, change, last);
+        last = tick_before(later, end);
+    }
+    longest
+}
+
+/// The longest stretch with one more, which is between a run up to the tick `last` and a change.
+fn with_stretch(longest: u64, change: &Change, last: u64) -> u64
+    ensures { result ≡ max longest (change.now.tick - last - 1) }
+{
+    longest.max(change.tick.saturating_sub(last).saturating_sub(1))
 }
 
 /// How many runs of fewer than `ticks` ticks stay, since they contain tick 0 or the end: those that

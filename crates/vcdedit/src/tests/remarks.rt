@@ -19,11 +19,13 @@ const LINES: &str = "\
 deglitch top.a 1 => deglitch: pulses removed: 0
 deglitch top.a 2 => deglitch: pulses removed: 1 (ticks of the longest: 1)
 deglitch top.a 3 => deglitch: pulses removed: 3 (ticks of the longest: 2) \
+/ deglitch: ticks of the longest stretch removed, which pulses broke up: 5 \
 / deglitch: short runs at tick 0 or the end, which stay: 1
 deglitch top.a 100 => deglitch: pulses removed: 5 (ticks of the longest: 5) \
 / deglitch: edges right after removed pulses: 1 (late by at most 13 ticks) \
 / deglitch: short runs at tick 0 or the end, which stay: 2
 deglitch top.b 4 => deglitch: pulses removed: 11 (ticks of the longest: 3) \
+/ deglitch: ticks of the longest stretch removed, which pulses broke up: 12 \
 / deglitch: short runs at tick 0 or the end, which stay: 1
 deglitch top.v 30 => deglitch: pulses removed: 1 (ticks of the longest: 15) \
 / deglitch: edges right after removed pulses: 1 (late by at most 15 ticks) \
@@ -32,9 +34,11 @@ deglitch top.a 0 =>
 shift top.a 25 =>
 shift top.a 26 => shift: changes moved past the end: 1
 shift top.a 9223372036854775807 => shift: changes moved past the end: 6
-shift top.a -2 =>
-shift top.a -5 => shift: changes moved before tick 0: 1
-shift top.a -9223372036854775808 => shift: changes moved before tick 0: 6
+shift top.a -2 => shift: ticks at the end filled with the last value: 2
+shift top.a -5 => shift: edges moved before tick 0: 1 \
+/ shift: ticks at the end filled with the last value: 5
+shift top.a -9223372036854775808 => shift: edges moved before tick 0: 6 \
+/ shift: ticks at the end filled with the last value: 41
 invert top.a =>
 cut 9 4 =>
 undo =>

@@ -10,7 +10,7 @@ use Rattle.vcd_script.specs.declared.remarks.pulses.Spans.{Spans}
 use Rattle.vcd_script.specs.declared.remarks.places.DecoderLine.{DecoderLine}
 use Rattle.vcd_script.specs.Remarks.{ValueRun, tick_before, runs_begun, is_pulse, ticks_of_run}
 use Rattle.vcd_script.specs.Remarks.{edge_delays, stays_short, delay_text, is_lost, lost_letters}
-use Rattle.vcd_script.specs.Remarks.{place_text, more_text}
+use Rattle.vcd_script.specs.Remarks.{place_text, more_text, stretches}
 
 -- the number of a line, before a remark
 abbrev pub remark_head : ℕ → List ℕ
@@ -46,6 +46,11 @@ pulses_text found = codes "deglitch: pulses removed: " ++ decimal found.count
 -- a run of which the last tick and the value count
 abbrev pub run_until : (last : ℕ) → (value : List Bit) → ValueRun
 run_until last value = record { first = 0; last = last; value = value }
+
+-- the stretches before these changes, after a run that stays up to a tick
+abbrev pub stretches_after : (ticks end last : ℕ) → List Change → List ℕ
+stretches_after ticks end last cs =
+    stretches (run_until last [] ∷ filter (λ r. not (is_pulse ticks end r)) (runs_begun end cs))
 
 -- by how many ticks the edge to a change is late after a run that stays, if it is
 abbrev pub delay_of : (before : ValueRun) → Change → Option ℕ
