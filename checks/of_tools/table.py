@@ -5,7 +5,7 @@ import json
 import os
 import sys
 
-from common import EXAMPLES, TOP, amend_of, module_of, run, store
+from common import EXAMPLES, TOP, amend_of, load, module_of, run, store, store_program
 
 TOOL = os.path.join(TOP, "tools/vcdedit-table")
 I2C, I2C_LINE = os.path.join(EXAMPLES, "i2c/capture.vcd"), "i2c bench.scl bench.sda"
@@ -42,7 +42,8 @@ SPI_ROWS = """line  decoder  first  last  first_us  last_us  what       mosi
 SPI_LINES = ["spi c d - - 0 4 msb", "spi c d - - 0 2 msb"]
 REMARKS = ["spi: MOSI is x or z at 10-20: edges and bits there are lost",
            "spi: without CS words are counted from tick 0: if one began before, all may be wrong"]
-UART, GLITCHES = (os.path.join(EXAMPLES, name, "capture.vcd") for name in ("sigrok-uart", "glitches"))
+UART, GLITCHES, IVERILOG = (
+    os.path.join(EXAMPLES, name, "capture.vcd") for name in ("sigrok-uart", "glitches", "iverilog"))
 # Words, the status, and a part of what is told, or nothing. Where the status is not 0, there is no table.
 TOLD = [
     ([UART, "uart libsigrok.rx 115200 8 none 1"], 0,
@@ -50,6 +51,11 @@ TOLD = [
     ([UART, "uart libsigrok.rx 9600 8 none 1"], 0,
      "vcdedit-table: line 1: uart: the line is not idle for a frame from tick 0 on: "),
     ([UART, "value libsigrok.rx 0"], 0, "no line decodes: write uart, spi or i2c, as in 'i2c bench.scl bench.sda'"),
+    ([IVERILOG, "invert bench.clk", "remove @0", "cut 1000 9000"], 0,
+     "at tick 1000\nvcdedit-table: output: edited, unlike another variable of the same code: bench.clk\n"
+     "vcdedit-table: no line decodes"),
+    ([IVERILOG, "derive byte_sent not bench.clk"], 0,
+     "vcdedit-table: no remarks on edited variables of one code: NameOfSkipped: "),
     ([GLITCHES, "deglitch bench.rx 3us"], 1, "BadNumber\n    3us: write 3\n"),
     ([GLITCHES, "shift bench.rx 3.5us"], 1, "BadNumber\n    3.5us is between tick 3 and the next: write ticks\n"),
     ([GLITCHES, "force bench.rx 3 5 0x2F"], 1, "BadValueText\n    0x2F: write 101111\n"),
@@ -79,8 +85,8 @@ def transfer_text(row):
 def check(program, folder):
     environment = {**os.environ, "VCDEDIT": program, "VCDEDIT_AMEND": amend_of(program)}
 
-    def table(*words, given=None):
-        return run([TOOL, *words], cwd=folder, env=environment, input=given)
+    def table(*words, given=None, **more):
+        return run([TOOL, *words], cwd=folder, env={**environment, **more}, input=given)
 
     for text, wanted in BUS:
         rows = json.loads(table("-", "--json", "i2c c d", given=bus(text))[1])
@@ -109,6 +115,10 @@ def check(program, folder):
         found = table(*words)
         right = found[0] == status and (status == 0 or found[1] == "") and told in found[2]
         yield "%s: %s" % (words, found), right and bool(told) == bool(found[2])
+    notes = store_program(folder, "notes", text='#!/bin/sh\necho "$@" > words\nexec %s "$@"\n' % amend_of(program))
+    for line, has_output in (I2C_LINE, False), ("value @0 1", False), ("invert @0", True), ("undo", True):
+        table(I2C, line, VCDEDIT_AMEND=notes)
+        yield "an output only if a line edits: " + line, (b" -o /dev/null" in load(folder, "words")) == has_output
     yield "no rate where bytes were found", "baud" not in table(UART, "uart libsigrok.rx 9600 8 none 1")[2]
     path = os.pathsep.join([os.path.join(TOP, "tools"), os.environ["PATH"]])
     words = [sys.executable, "-B", "-c", "import test_bus; test_bus.test_register_is_read()"]

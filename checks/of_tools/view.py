@@ -14,7 +14,7 @@ I2C, I2C_LINE = os.path.join(EXAMPLES, "i2c/capture.vcd"), "i2c bench.scl bench.
 GLITCHES, UART_LINE = os.path.join(EXAMPLES, "glitches/capture.vcd"), "uart bench.rx 10 8 none 1"
 NO_ROW = "line %d: uart: no row: a later line edits what it decodes (see --before)"
 WITHOUT_CS = "line 1: spi: without CS words are counted from tick 0: if one began before, all may be wrong"
-ODD = "GTKWave may not show: %s"
+ODD, EDITED = "GTKWave may not show: %s", "output: edited, unlike another variable of the same code: %s"
 
 
 def text(names, changes):
@@ -34,6 +34,8 @@ ROWS = {
     "a decoder among edits": (BYTE, ["invert r", LINE, "undo"], [NO_ROW % 2], {}),
     "a decoder among edits that come to nothing": (
         BYTE, ["invert r", LINE, "invert r", "undo"], [], {"uart": "0 -|20 byte_0x00|40 -"}),
+    "a decoder of one of two variables of a code": (
+        "$var wire 1 ! a $end\n" + BYTE, ["invert r", LINE], [EDITED % "r"], {"uart": "0 -|20 byte_0x00|40 -"}),
     "a decoder before an edit of another line": (
         text("r c", '1! 0" #20 0! #38 1! #50'), [LINE, "invert c", "uart @0 2 8 none 1"], [],
         {"uart": "0 -|20 byte_0x00|40 -", "uart_2": "0 -|20 byte_0x00|40 -"}),
@@ -87,7 +89,7 @@ REFUSED = [
     ([I2C, "--size", "50"], 2, "--size is a width"), ([I2C, "-o", "none/v.vcd"], 2, "there is no such folder"),
     ([I2C, "--picture", "p.jpg"], 2, "--picture: p.jpg does not end in .png"),
     ([I2C], 4, "there is no gtkwave and no surfer: apt-get install gtkwave, or say in VCDEDIT_VIEWER"),
-    ([I2C, "--picture", "p.png"], 4, "apt-get install gtkwave xvfb xauth"),
+    ([I2C, "--picture", "p.png"], 4, "needs GTKWave and a virtual screen: apt-get install gtkwave xvfb xauth\n"),
 ]
 
 
@@ -179,7 +181,8 @@ def programs(program, folder, view):
     yield "a full standard output: %s" % (found,), found == (4, "", told)
     writes = store_program(folder, "writes", text='#!/bin/sh\necho "#9" >> many.vcd\nexec %s "$@"\n' % program)
     found = view("many.vcd", "-o", "w.vcd", "invert @0", VCDEDIT=writes)
-    told = "vcdedit-view: many.vcd: another program writes it: run again when that has ended\n"
+    told = "vcdedit-view: %s\nvcdedit-view: many.vcd: another program writes it: run again when that has ended\n"
+    told %= EDITED % "a_signal_of_many_0"
     yield "a capture that changes: %s" % (found,), found == (4, "", told)
     notes = store_program(folder, "notes", text='#!/bin/sh\necho "first-look: a build" >&2\nexec %s "$@"\n' % program)
     found = view(I2C, "-o", "v.vcd", I2C_LINE, VCDEDIT=notes, VCDEDIT_AMEND="none")
