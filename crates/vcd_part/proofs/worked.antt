@@ -1,4 +1,5 @@
 -- Worked cases.
+pub mod CommentsAndScopes
 pub mod EmptyStamps
 pub mod LeftOutEvents
 pub mod StillShown

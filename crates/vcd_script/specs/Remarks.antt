@@ -103,7 +103,7 @@ abbrev pub longest_stretch : (ticks end : ℕ) → List ValueRun → ℕ
 longest_stretch ticks end runs =
     greatest (stretches (filter (λ r. not (is_pulse ticks end r)) runs))
 
--- the remark on the longest stretch; none if it has fewer ticks than a run that stays
+-- the remark on the longest stretch; none if it has fewer than these ticks, as one pulse has
 abbrev pub stretch_remark : (ticks longest : ℕ) → List (List ℕ)
 stretch_remark ticks longest =
     count_remark (codes "deglitch: ticks of the longest stretch removed, which pulses broke up: ")

@@ -24,12 +24,13 @@ use vcd_core::Capture;
 use vcd_journal::Step;
 
 /// The remarks on a command, which the line of this number asks for on this capture: how many
-/// pulses a `deglitch` takes out and how long the longest is, how many edges it makes late and by
-/// how many ticks at most, how many short runs it leaves at tick 0 and at the end, how many changes
-/// a `shift` moves past the end or before tick 0, where a `cut` joins the capture, where a decoder
-/// can't read its lines, that what it reads may have begun before tick 0, and how many bits the end
-/// leaves of a transfer. Each is a line that begins with the number. An edit that is refused has
-/// none, and neither has any other command.
+/// pulses a `deglitch` takes out, how long the longest is and the longest stretch of them, how many
+/// edges it makes late and by how many ticks at most, how many short runs it leaves at tick 0 and
+/// at the end, how many changes a `shift` moves past the end and edges before tick 0, how many
+/// ticks at the end it fills, where a `cut` joins the capture, where a decoder can't read its
+/// lines, that what it reads may have begun before tick 0, and how many bits the end leaves of a
+/// transfer. Each is a line that begins with the number. An edit that is refused has none, and
+/// neither has any other command.
 ///
 /// It takes a few steps for each change of the signals of the command, and the memory is that of
 /// the text.

@@ -9,11 +9,11 @@ use Rattle.vcd_part.specs.Pattern.{meets}
 use Rattle.vcd_part.specs.WrittenPart.{still_shown}
 
 -- a text that is lent
-abbrev lent : {A : Type 0} → A → Bor A
+abbrev pub lent : {A : Type 0} → A → Bor A
 lent text = record { ref_ptr = (0, 0); now = text }
 
 -- a request to remove the variables whose names meet this pattern
-abbrev without : (pattern : List ℕ) → Request
+abbrev pub without : (pattern : List ℕ) → Request
 without pattern = record {
   keep = None;
   remove = Some (lent (lent pattern ∷ []));

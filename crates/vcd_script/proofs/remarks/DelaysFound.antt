@@ -2,7 +2,6 @@
 use Rattle.std.proofs.Common.{◌≡◌, ℕ, ◌+◌, ◌-◌, ◌<◌, ◌≤◌, ◌==◌, ◌&&◌, max, nat_lt, Bool, true, false, not, cond}
 use Rattle.std.proofs.Common.{if◌then◌else◌, Option, Some, None, List, [], ◌∷◌, length, drop, get_or}
 use Rattle.std.proofs.Common.{refl, ap, sym, ◌∙◌, arith}
-use Rattle.std.proofs.lemmas.Bool.{eqb-true}
 use Rattle.std.specs.List.{filter}
 use Rattle.std.specs.Option.{is_some}
 use Rattle.vcd_core.specs.declared.bit.Bit.{Bit}
@@ -12,15 +11,11 @@ use Rattle.vcd_core.specs.Wave.{change}
 use Rattle.vcd_core.specs.Contents.{Contents, signal_at}
 use Rattle.vcd_script.specs.declared.remarks.pulses.Spans.{Spans}
 use Rattle.vcd_script.specs.Remarks.{ValueRun, tick_before, run_begun, runs_begun, changes_from_zero, value_runs}
-use Rattle.vcd_script.specs.Remarks.{is_pulse, ticks_of_run, greatest, edge_delay, edge_delays}
+use Rattle.vcd_script.specs.Remarks.{is_pulse, greatest, edge_delay, edge_delays}
 use Rattle.vcd_script.specs.Remarks.{delays_after_pulses, delays_remark}
 use Rattle.vcd_script.specs.inside.remarks.Parts.{pulse_ticks, with_span, run_until, delay_of, delays_after}
 use Rattle.vcd_script.specs.inside.remarks.Parts.{delays_lines}
-use Rattle.vcd_script.proofs.remarks.RunsLeft.{runs_left, no_runs_left}
-
--- the runs that stay
-abbrev pub staying : (ticks end : ℕ) → List ValueRun → List ValueRun
-staying ticks end rs = filter (λ r. not (is_pulse ticks end r)) rs
+use Rattle.vcd_script.proofs.remarks.RunsLeft.{no_runs_left, staying, staying_left, first_stays, if_pulse}
 
 -- the delays that count
 abbrev pub positive : List ℕ → List ℕ
@@ -74,20 +69,11 @@ module _ (ticks end : ℕ) (cs : List Change) (i : ℕ) (c : Change) (later : Li
   opened : (b : Bool) → is_pulse ticks end here ≡ b
       → delays_after ticks end before (drop i cs) ≡ positive (edge_delays (before ∷ cond (not b) (here ∷ left) left))
   opened b is =
-      ap (λ rs. positive (edge_delays (before ∷ staying ticks end rs))) (runs_left end cs i c later within at rest)
-      ∙ ap (λ q. positive (edge_delays (before ∷ cond (not q) (here ∷ left) left))) is
-
-  -- whether it is a pulse
-  if_pulse : (q : Bool) → is_some (pulse_ticks ticks end here) ≡ q → is_pulse ticks end here ≡ q
-  if_pulse q = by_test (is_pulse ticks end here)
-    where
-      by_test : (b : Bool) → is_some (if b then Some (ticks_of_run here) else None) ≡ q → b ≡ q
-      by_test true is = is
-      by_test false is = is
+      ap (λ rs. positive (edge_delays (before ∷ rs))) (staying_left ticks end cs i c later within at rest b is)
 
   pub pulse_passed : is_some (pulse_ticks ticks end here) ≡ true
       → delays_after ticks end before (drop i cs) ≡ delays_after ticks end before (drop (i + 1) cs)
-  pulse_passed is = opened true (if_pulse true is)
+  pulse_passed is = opened true (if_pulse ticks end here true is)
 
   module _ (last : ℕ) (ends : last ≡ tick_before end later) (stays : is_some (pulse_ticks ticks end here) ≡ false) where
     abbrev after : List ℕ
@@ -96,7 +82,7 @@ module _ (ticks end : ℕ) (cs : List Change) (i : ℕ) (c : Change) (later : Li
     edge_passed : delays_after ticks end before (drop i cs) ≡ positive (edge_delay before here ∷ after)
     unfolding edge_delays
     edge_passed =
-        opened false (if_pulse false stays)
+        opened false (if_pulse ticks end here false stays)
         ∙ ap (λ ds. positive (edge_delay before here ∷ ds)) (only_last c.tick (tick_before end later) c.value left)
         ∙ ap (λ t. positive (edge_delay before here ∷ edge_delays (run_until t c.value ∷ left))) (sym ends)
 
@@ -155,9 +141,7 @@ delays_after_x ticks end width (c ∷ cs) = by_first (c.tick == 0) refl where
       let x : ValueRun = run_until (tick_before end (c ∷ cs)) (all_x width) in
       let r : ValueRun = run_begun end c cs in
       let rs : List ValueRun = staying ticks end (runs_begun end cs) in
-      let stays : is_pulse ticks end r ≡ false =
-      ap (λ (t : ℕ). is_pulse ticks end (record { first = t; last = r.last; value = r.value }))
-      (eqb-true c.tick 0 at) in
+      let stays : is_pulse ticks end r ≡ false = first_stays ticks end c cs at in
       ap (λ q. positive (edge_delays (x ∷ cond (not q) (r ∷ rs) rs))) stays
       ∙ x_to_change (same_letters c.value (all_x width)) c.tick (edge_delays (r ∷ rs))
       ∙ ap (λ q. positive (edge_delays (cond (not q) (r ∷ rs) rs))) (sym stays)

@@ -1,8 +1,7 @@
 -- The longest stretch of pulses, found change by change.
 use Rattle.std.proofs.Common.{◌≡◌, ℕ, ◌+◌, ◌-◌, ◌<◌, ◌≤◌, ◌==◌, max, Bool, true, false, not, cond}
-use Rattle.std.proofs.Common.{if◌then◌else◌, Option, Some, None, List, [], ◌∷◌, length, drop, get_or}
+use Rattle.std.proofs.Common.{if◌then◌else◌, List, [], ◌∷◌, length, drop, get_or}
 use Rattle.std.proofs.Common.{refl, ap, sym, ◌∙◌, arith}
-use Rattle.std.proofs.lemmas.Bool.{eqb-true}
 use Rattle.std.specs.Option.{is_some}
 use Rattle.vcd_core.specs.declared.bit.Bit.{Bit}
 use Rattle.vcd_core.specs.declared.wave.Change.{Change}
@@ -10,10 +9,9 @@ use Rattle.vcd_core.specs.Value.{all_x}
 use Rattle.vcd_core.specs.Wave.{change}
 use Rattle.vcd_core.specs.Contents.{Contents, signal_at}
 use Rattle.vcd_script.specs.Remarks.{ValueRun, tick_before, run_begun, runs_begun, changes_from_zero, value_runs}
-use Rattle.vcd_script.specs.Remarks.{is_pulse, ticks_of_run, greatest, stretches, longest_stretch}
+use Rattle.vcd_script.specs.Remarks.{is_pulse, greatest, stretches, longest_stretch}
 use Rattle.vcd_script.specs.inside.remarks.Parts.{pulse_ticks, run_until, stretches_after}
-use Rattle.vcd_script.proofs.remarks.DelaysFound.{staying}
-use Rattle.vcd_script.proofs.remarks.RunsLeft.{runs_left, no_runs_left}
+use Rattle.vcd_script.proofs.remarks.RunsLeft.{no_runs_left, staying, staying_left, first_stays, if_pulse}
 
 -- the first tick and the value of a run do not count for the stretches after it
 only_last : (first last : ℕ) (value : List Bit) (rs : List ValueRun)
@@ -36,26 +34,18 @@ module _ (ticks end : ℕ) (cs : List Change) (i : ℕ) (c : Change) (later : Li
       → stretches_after ticks end before (drop i cs)
       ≡ stretches (run_until before [] ∷ cond (not b) (here ∷ left) left)
   opened b is =
-      ap (λ rs. stretches (run_until before [] ∷ staying ticks end rs)) (runs_left end cs i c later within at rest)
-      ∙ ap (λ q. stretches (run_until before [] ∷ cond (not q) (here ∷ left) left)) is
-
-  if_pulse : (q : Bool) → is_some (pulse_ticks ticks end here) ≡ q → is_pulse ticks end here ≡ q
-  if_pulse q = by_test (is_pulse ticks end here)
-    where
-      by_test : (b : Bool) → is_some (if b then Some (ticks_of_run here) else None) ≡ q → b ≡ q
-      by_test true is = is
-      by_test false is = is
+      ap (λ rs. stretches (run_until before [] ∷ rs)) (staying_left ticks end cs i c later within at rest b is)
 
   pub stretch_passed : is_some (pulse_ticks ticks end here) ≡ true
       → stretches_after ticks end before (drop i cs) ≡ stretches_after ticks end before (drop (i + 1) cs)
-  stretch_passed is = opened true (if_pulse true is)
+  stretch_passed is = opened true (if_pulse ticks end here true is)
 
   stretch_first : (last : ℕ) → last ≡ tick_before end later → is_some (pulse_ticks ticks end here) ≡ false
       → stretches_after ticks end before (drop i cs)
       ≡ (c.tick - before - 1) ∷ stretches_after ticks end last (drop (i + 1) cs)
   unfolding stretches
   stretch_first last ends stays =
-      opened false (if_pulse false stays)
+      opened false (if_pulse ticks end here false stays)
       ∙ ap (λ ds. (c.tick - before - 1) ∷ ds) (only_last c.tick (tick_before end later) c.value left)
       ∙ ap (λ t. (c.tick - before - 1) ∷ stretches (run_until t [] ∷ left)) (sym ends)
 
@@ -97,9 +87,7 @@ stretches_after_x ticks end width (c ∷ cs) = by_first (c.tick == 0) refl where
       let x : ValueRun = run_until (tick_before end (c ∷ cs)) [] in
       let r : ValueRun = run_begun end c cs in
       let rs : List ValueRun = staying ticks end (runs_begun end cs) in
-      let stays : is_pulse ticks end r ≡ false =
-      ap (λ (t : ℕ). is_pulse ticks end (record { first = t; last = r.last; value = r.value }))
-      (eqb-true c.tick 0 at) in
+      let stays : is_pulse ticks end r ≡ false = first_stays ticks end c cs at in
       ap (λ q. greatest (stretches (x ∷ cond (not q) (r ∷ rs) rs))) stays
       ∙ ap (λ n. max n (greatest (stretches (r ∷ rs)))) {x = c.tick - (c.tick - 1) - 1} {y = 0} (omega arith)
       ∙ zero_counts_nothing (greatest (stretches (r ∷ rs)))

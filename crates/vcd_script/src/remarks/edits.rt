@@ -109,8 +109,8 @@ fn append_pulses_remark(text: &mut Vec<u8>, number: u64, pulses: Spans) -> Memor
     Ok(())
 }
 
-/// Appends the remark on the longest stretch of pulses, unless it has fewer ticks than a run that
-/// stays.
+/// Appends the remark on the longest stretch of pulses, unless it has fewer than `ticks` ticks, as
+/// one pulse has.
 fn append_stretch_remark(
     text: &mut Vec<u8>,
     number: u64,

@@ -2,7 +2,7 @@
 use Rattle.std.specs.Prelude.{ℕ, Option, Err, IfSome}
 use Rattle.vcd_core.specs.Devices.{DeviceEnd, IsUntouched}
 use Rattle.vcd_script.specs.declared.running.run_error.RunError.{RunError}
-use Rattle.vcd_script.specs.RunEnds.{IsAccepted, RunEnds}
+use Rattle.vcd_script.specs.RunEnds.{RunEnds}
 
 -- it ends before its output
 abbrev pub EndsBeforeOutput : (depth : ℕ) → (capture script : DeviceEnd) → (replies : DeviceEnd)
