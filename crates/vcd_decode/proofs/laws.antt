@@ -2,3 +2,4 @@
 pub mod sent
 pub mod StraightEdges
 pub mod ApartLines
+pub mod SamplesOfWords

@@ -1,4 +1,6 @@
 -- Lemmas: worked.
 pub mod I2c
 pub mod Spi
+pub mod SpiSamples
 pub mod Uart
+pub mod UartEdges

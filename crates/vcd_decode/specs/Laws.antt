@@ -2,7 +2,7 @@
 -- through x or z counts for nothing. Each is the contract of a function of `laws`.
 use Rattle.std.specs.Prelude.{ℕ, suc, ◌-◌, ◌≡◌, ◌<◌, ◌≤◌, ◌&&◌, nat_le, Bool, true, false}
 use Rattle.std.specs.Prelude.{if◌then◌else◌, Option, Some, None, List, [], ◌∷◌, ◌++◌, map, length}
-use Rattle.std.specs.List.{All}
+use Rattle.std.specs.List.{All, flat_map}
 use Rattle.vcd_core.specs.declared.bit.Bit.{Bit}
 use Rattle.vcd_core.specs.declared.bit.Bit.TheVariants.{Zero, One, Z}
 use Rattle.vcd_core.specs.Value.{same_letter}
@@ -15,7 +15,8 @@ use Rattle.vcd_decode.specs.SetupFaults.{spi_fault}
 use Rattle.vcd_decode.specs.SetupResults.{IsUartSetup}
 use Rattle.vcd_decode.specs.Uart.{uart_annotations}
 use Rattle.vcd_decode.specs.SpiSetup.{SpiSetup}
-use Rattle.vcd_decode.specs.Spi.{spi_annotations}
+use Rattle.vcd_decode.specs.Spi.{segments, spi_annotations}
+use Rattle.vcd_decode.specs.SpiSamples.{sampled_ticks}
 use Rattle.vcd_decode.specs.SpiSent.{SpiWord, HasHalves, WordsFit, SendsClock, MaySendData}
 use Rattle.vcd_decode.specs.SpiSent.{IsChipSelect, sent_word_annotation, sent_partial_annotation}
 use Rattle.vcd_decode.specs.Lines.{letter_before}
@@ -113,6 +114,15 @@ SpiLinesAreApart =
     ≡ spi_annotations u clk None miso cs end)
     × (map (with_kind without_miso) (spi_annotations u clk mosi miso cs end)
     ≡ spi_annotations u clk mosi None cs end)
+
+-- ---- samples
+
+-- the sampled ticks are those that words are made of: of each part between the ticks at which the
+-- chip is not selected, one after the other
+abbrev pub SpiSamplesAreOfWords : Type 0
+SpiSamplesAreOfWords =
+    (u : SpiSetup) (clk : ℕ → Bit) (cs : Option (ℕ → Bit)) (end : ℕ)
+    → flat_map (λ ticks. ticks) (segments u clk cs end) ≡ sampled_ticks u clk cs end
 
 -- ---- an edge through x or z counts for nothing
 

@@ -2,7 +2,11 @@
 
 mod bus_walk;
 mod bytes;
+mod doubts;
 mod events;
+mod joint_edges;
 mod transfer;
 
-pub use bus_walk::{i2c, i2c_bits_after_last_byte, i2c_bits_before_condition};
+pub use bus_walk::i2c;
+pub use doubts::{BusDoubts, i2c_doubts};
+pub use joint_edges::i2c_joint_edges;

@@ -56,6 +56,7 @@ impl Model for Spi {
 impl Spi {
     ghost use Rattle.vcd_decode.specs.inside.SpiParts.{samples_rising_edge};
     ghost use Rattle.vcd_decode.specs.inside.SpiSetup.{samples_at};
+    ghost use Rattle.vcd_decode.specs.inside.SpiSamples as samples;
 
     /// The setup with this mode, this number of bits in a word and this order of bits.
     ///
@@ -116,6 +117,28 @@ impl Spi {
         }
     }
 
+    /// Whether a clock is at the level to which the sampling edge goes.
+    pub(crate) fn shows_sampled_level(&self, clk: Option<Bit>) -> bool
+        ensures { result ≡ samples.shows_sampled_level self.now.mode clk }
+    {
+        if self.samples_rising_edge() {
+            shows_one(clk)
+        } else {
+            shows_zero(clk)
+        }
+    }
+
+    /// Whether a clock is at the level from which the sampling edge goes.
+    pub(crate) fn shows_waiting_level(&self, clk: Option<Bit>) -> bool
+        ensures { result ≡ samples.shows_waiting_level self.now.mode clk }
+    {
+        if self.samples_rising_edge() {
+            shows_zero(clk)
+        } else {
+            shows_one(clk)
+        }
+    }
+
     /// Whether bits are sampled where the clock rises.
     fn samples_rising_edge(&self) -> bool
         ensures { result ≡ samples_rising_edge self.now.mode }
@@ -124,7 +147,8 @@ impl Spi {
     }
 }
 
-fn shows_zero(bit: Option<Bit>) -> bool
+/// Whether a bit is there and is 0.
+pub(crate) fn shows_zero(bit: Option<Bit>) -> bool
     ensures { result ≡ is_present_and spec.is_zero bit }
 {
     match bit {
@@ -133,7 +157,8 @@ fn shows_zero(bit: Option<Bit>) -> bool
     }
 }
 
-fn shows_one(bit: Option<Bit>) -> bool
+/// Whether a bit is there and is 1.
+pub(crate) fn shows_one(bit: Option<Bit>) -> bool
     ensures { result ≡ is_present_and spec.is_one bit }
 {
     match bit {

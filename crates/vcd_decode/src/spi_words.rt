@@ -120,14 +120,15 @@ fn deselects_chip(edge: &BitEdge) -> bool
     selects_chip(edge.before[3]) & !selects_chip(edge.at[3])
 }
 
-fn is_sampling(setup: &Spi, edge: &BitEdge) -> bool
+/// Whether the data lines are sampled at an edge.
+pub(crate) fn is_sampling(setup: &Spi, edge: &BitEdge) -> bool
     ensures { result ≡ is_sampling setup.now edge.now }
 {
     selects_chip(edge.at[3]) & setup.samples_at(edge.before[0], edge.at[0])
 }
 
 /// Whether the chip is selected, by the bit of its line.
-fn selects_chip(cs: Option<Bit>) -> bool
+pub(crate) fn selects_chip(cs: Option<Bit>) -> bool
     ensures { result ≡ selects_chip cs }
 {
     match cs {

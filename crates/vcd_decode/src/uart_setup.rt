@@ -1,6 +1,7 @@
 //! The setup of an asynchronous serial line.
 
 ghost use Rattle.std.specs.Prelude.{◌≡◌, ◌≤◌, ◌+◌, ◌*◌, IfOk};
+ghost use Rattle.std.specs.Int.{div_ceil};
 ghost use Rattle.vcd_decode.specs.SetupFaults.{uart_fault};
 ghost use Rattle.vcd_decode.specs.SetupResults.{SetupFaultIs};
 ghost use Rattle.vcd_decode.specs.UartSetup.{uart_setup};
@@ -63,6 +64,7 @@ impl Model for Uart {
 
 impl Uart {
     ghost use Rattle.vcd_decode.specs.Uart.{checked_bits, last_bit, sample_offset, is_parity_wrong};
+    ghost use Rattle.vcd_decode.specs.UartEdges.{is_amid_bit};
 
     /// The setup with bits of `numerator / denominator` ticks, this number of data bits, this
     /// parity bit and this number of stop bits.
@@ -172,6 +174,23 @@ impl Uart {
         ensures { result ≡ sample_offset self.now (last_bit self.now) + 1 }
     {
         self.sample_offset(self.last_bit()) + 1
+    }
+
+    /// The least number of ticks that lasts as long as this many sixths of a bit.
+    pub fn sixths_of_bit(&self, count: u32) -> u64
+        ensures { result ≡ div_ceil (count * self.now.numerator) (6 * self.now.denominator) }
+    {
+        (u64::from(count) * self.numerator).div_ceil(6 * self.denominator)
+    }
+
+    /// Whether so many ticks after the start of a frame it is more than a quarter of a bit to both
+    /// ends of the bit there.
+    pub(crate) fn is_amid_bit(&self, ticks: u64) -> bool
+        ensures { result ≡ is_amid_bit self.now ticks }
+    {
+        let bit = u128::from(self.numerator);
+        let past = u128::from(ticks) * u128::from(self.denominator) % bit;
+        bit < 4 * past && 4 * past < 3 * bit
     }
 
     /// Whether this number of ones among the data bits and the parity bit is wrong.

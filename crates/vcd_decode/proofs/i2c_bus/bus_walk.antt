@@ -1,5 +1,3 @@
 -- Lemmas of `i2c_bus/bus_walk`.
 pub mod EventByEvent
 pub mod EventsOfTicks
-pub mod BitsBefore
-pub mod BitsAfter

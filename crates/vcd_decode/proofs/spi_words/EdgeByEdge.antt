@@ -186,7 +186,7 @@ module _ (u : SpiSetup) (mosi miso : Option (ℕ → Bit)) where
 
 -- ---- whether the chip is selected
 
-selected_is : (cs : Option (ℕ → Bit)) (t : ℕ) → selects_chip (option_map (λ f. f t) cs) ≡ is_selected cs t
+pub selected_is : (cs : Option (ℕ → Bit)) (t : ℕ) → selects_chip (option_map (λ f. f t) cs) ≡ is_selected cs t
 selected_is None t = refl
 selected_is (Some f) t = refl
 
@@ -419,15 +419,9 @@ module _ (u : SpiSetup) (some : 0 < u.bits) (mosi miso : Option (ℕ → Bit)) w
 
 -- ---- the beginning
 
--- where no line changes an edge has no mark
-still : (u : SpiSetup) (e : BitEdge) → e.at ≡ e.before → edge_marks u e ≡ []
-unfolding edge_marks
-still u e same =
-    let unread : samples_at u.mode (line_bit e.before 0) (line_bit e.before 0) ≡ false =
-    no_edge (samples_rising_edge u.mode) (line_bit e.before 0) in
-    ap (λ bits. edge_marks u (record { tick = e.tick; before = e.before; at = bits })) same
-    ∙ nothing (selects_chip (line_bit e.before 3))
-    (samples_at u.mode (line_bit e.before 0) (line_bit e.before 0)) unread
+-- a clock that does not change is not sampled
+pub never_sampled : (mode : ℕ) (b : Option Bit) → samples_at mode b b ≡ false
+never_sampled mode b = no_edge (samples_rising_edge mode) b
   where
     no_edge : (rise : Bool) (b : Option Bit)
         → (if rise then is_present_and is_zero b && is_present_and is_one b else is_present_and is_one b
@@ -437,6 +431,14 @@ still u e same =
     no_edge rise (Some Zero) = refl
     no_edge rise b = refl
 
+-- where no line changes an edge has no mark
+still : (u : SpiSetup) (e : BitEdge) → e.at ≡ e.before → edge_marks u e ≡ []
+unfolding edge_marks
+still u e same =
+    ap (λ bits. edge_marks u (record { tick = e.tick; before = e.before; at = bits })) same
+    ∙ nothing (selects_chip (line_bit e.before 3))
+    (samples_at u.mode (line_bit e.before 0) (line_bit e.before 0)) (never_sampled u.mode (line_bit e.before 0))
+  where
     nothing : (selected reads : Bool) → reads ≡ false
         → (if selected && not selected then None ∷ [] else (if selected && reads then Some e.tick ∷ [] else [])) ≡ []
     nothing true true none = absurd (cc)

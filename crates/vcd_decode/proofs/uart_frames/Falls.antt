@@ -72,7 +72,7 @@ abbrev pub letter_of : Change → Bit
 letter_of c = letter_at c.value 0
 
 -- the ticks of the changes from 1 to 0
-pub fall_ticks : Bit → List Change → List ℕ
+unfoldable pub fall_ticks : Bit → List Change → List ℕ
 fall_ticks before [] = []
 fall_ticks before (c ∷ cs) =
     cond (is_one before && is_zero (letter_of c)) (c.tick ∷ fall_ticks (letter_of c) cs) (fall_ticks (letter_of c) cs)

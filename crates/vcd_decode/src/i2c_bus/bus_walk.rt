@@ -1,13 +1,10 @@
 //! The walk over the two lines of a bus.
 
-ghost use Rattle.std.specs.Prelude.{◌≡◌, ◌<◌, ◌^◌, ◌++◌, None, List, length, All, IfOk};
+ghost use Rattle.std.specs.Prelude.{◌≡◌, ◌++◌, None, List, All, IfOk};
 ghost use Rattle.std.specs.List.{cons_option};
 ghost use Rattle.vcd_core.specs.Wave.{AllUpTo};
 ghost use Rattle.vcd_decode.specs.WaveLines.{line_of};
-ghost use Rattle.vcd_decode.specs.BusEvents.{bus_events};
-ghost use Rattle.vcd_decode.specs.I2c as spec;
-ghost use Rattle.vcd_decode.specs.I2c.{bits_until, i2c_annotations};
-ghost use Rattle.vcd_decode.specs.LastBits.{bits_after_last_byte};
+ghost use Rattle.vcd_decode.specs.I2c.{i2c_annotations};
 ghost use Rattle.vcd_decode.specs.declared.i2c_bus.events.BusEvent.{BusEvent};
 ghost use Rattle.vcd_decode.specs.inside.i2c_bus.BusWalk as walk;
 
@@ -46,96 +43,6 @@ pub fn i2c<'a>(
     annotations_of(alloc, BitEdges::new(Some(scl), Some(sda), None, None))
 }
 
-/// The number of bits before the first START or STOP condition on an I2C bus with the lines `scl`
-/// and `sda`, up to the tick `end`. They have no annotation.
-///
-/// It is one walk over the changes of both lines, up to that condition, and takes no memory.
-pub fn i2c_bits_before_condition<'a>(scl: &'a Wave, sda: &'a Wave, end: u64) -> u64
-    requires scl_one_bit { scl.now.width ≡ 1 }
-    requires sda_one_bit { sda.now.width ≡ 1 }
-    requires scl_ends { AllUpTo end scl.now.changes }
-    requires sda_ends { AllUpTo end sda.now.changes }
-    ensures { result
-        ≡ length (bits_until (bus_events (line_of scl.now) (line_of sda.now) end)) }
-{
-    count_bits_before(BitEdges::new(Some(scl), Some(sda), None, None))
-}
-
-/// The number of bits after the last START or STOP condition on an I2C bus with the lines `scl` and
-/// `sda`, up to the tick `end`, that have no annotation. After a START these are the bits that make
-/// no whole byte with its acknowledge, and after a STOP all. It is 0 if there is no condition.
-///
-/// It is one walk over the changes of both lines, and takes no memory.
-pub fn i2c_bits_after_last_byte<'a>(scl: &'a Wave, sda: &'a Wave, end: u64) -> u64
-    requires scl_one_bit { scl.now.width ≡ 1 }
-    requires sda_one_bit { sda.now.width ≡ 1 }
-    requires scl_ends { AllUpTo end scl.now.changes }
-    requires sda_ends { AllUpTo end sda.now.changes }
-    ensures { result
-        ≡ bits_after_last_byte (bus_events (line_of scl.now) (line_of sda.now) end) }
-{
-    count_bits_after(BitEdges::new(Some(scl), Some(sda), None, None))
-}
-
-/// The number of bits before the first condition.
-fn count_bits_before(edges: BitEdges) -> u64
-    requires lines { All walk.IsBusEdge edges }
-    requires few { length (bits_until (walk.edge_events edges)) < 2 ^ 64 }
-    ensures { result ≡ length (bits_until (walk.edge_events edges.entry)) }
-{
-    let mut count = 0;
-    for edge in edges {
-        if let Some(event) = edge_event(edge) {
-            if is_condition(event) {
-                return count;
-            }
-            count += 1;
-        }
-    }
-    count
-}
-
-/// The number of bits after the last condition that have no annotation.
-fn count_bits_after(edges: BitEdges) -> u64
-    requires lines { All walk.IsBusEdge edges }
-    requires few { length (walk.edge_events edges) < 2 ^ 64 }
-    ensures { result ≡ bits_after_last_byte (walk.edge_events edges.entry) }
-{
-    let mut last = None;
-    let mut count = 0;
-    for edge in edges {
-        if let Some(event) = edge_event(edge) {
-            if is_condition(event) {
-                last = Some(event);
-                count = 0;
-            } else {
-                count += 1;
-            }
-        }
-    }
-    bits_of_no_byte(last, count)
-}
-
-/// Of the bits since the last condition, if there was one, those that have no annotation.
-fn bits_of_no_byte(last: Option<BusEvent>, bits: u64) -> u64
-    ensures { result ≡ walk.bits_of_no_byte last bits }
-{
-    match last {
-        Some(BusEvent::Start(_)) => bits % 9,
-        Some(_) => bits,
-        None => 0,
-    }
-}
-
-fn is_condition(event: BusEvent) -> bool
-    ensures { result ≡ spec.is_condition event }
-{
-    match event {
-        BusEvent::Start(_) | BusEvent::Stop(_) => true,
-        BusEvent::Bit(_) => false,
-    }
-}
-
 /// The annotations of the edges of SCL and SDA.
 fn annotations_of(alloc: Global, edges: BitEdges) -> Result<Vec<Annotation>, NoMemory>
     requires { All walk.IsBusEdge edges }
@@ -170,7 +77,8 @@ fn take_line_edge(
     }
 }
 
-fn edge_event(edge: BitEdge) -> Option<BusEvent>
+/// The event at an edge, if there is one.
+pub(super) fn edge_event(edge: BitEdge) -> Option<BusEvent>
     requires { walk.IsBusEdge edge }
     ensures { result ≡ walk.edge_event edge }
 {
@@ -178,7 +86,8 @@ fn edge_event(edge: BitEdge) -> Option<BusEvent>
     bus_event(edge.tick, before, levels_of(edge.at))
 }
 
-fn levels_of(bits: [Option<Bit>; 4]) -> BusLevels
+/// The levels of the first two of these lines.
+pub(super) fn levels_of(bits: [Option<Bit>; 4]) -> BusLevels
     requires { walk.HasBothLines bits }
     ensures { result ≡ walk.levels_of bits }
 {

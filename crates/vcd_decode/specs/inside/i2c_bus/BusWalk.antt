@@ -1,7 +1,6 @@
 -- The walk over the events of an I2C bus: the state between two events, and the annotations of one.
 use Rattle.std.specs.Prelude.{◌≡◌, ℕ, ◌+◌, ◌^◌, ◌<◌, ◌≤◌, ◌==◌, nat_le, if◌then◌else◌, Option, Some}
-use Rattle.std.specs.Prelude.{None, IfSome, List, [], ◌∷◌, ◌++◌, ◌%◌, length, fold, filter_map}
-use Rattle.std.specs.List.{list_any}
+use Rattle.std.specs.Prelude.{None, IfSome, List, [], ◌∷◌, ◌++◌, fold, filter_map}
 use Rattle.std.specs.Option.{option_or}
 use Rattle.vcd_core.specs.declared.bit.Bit.{Bit}
 use Rattle.vcd_core.specs.declared.bit.Bit.TheVariants.{X}
@@ -17,8 +16,6 @@ use Rattle.vcd_decode.specs.declared.i2c_bus.bytes.ByteRole.TheVariants as roles
 use Rattle.vcd_decode.specs.declared.i2c_bus.bytes.PartialByte.{PartialByte}
 use Rattle.vcd_decode.specs.declared.i2c_bus.transfer.Transfer.{Transfer}
 use Rattle.vcd_decode.specs.Lines.{annotation}
-use Rattle.vcd_decode.specs.I2c.{bits_until, is_condition}
-use Rattle.vcd_decode.specs.LastBits.{bits_after_last_byte}
 use Rattle.vcd_decode.specs.inside.i2c_bus.Events.{bus_event}
 use Rattle.vcd_decode.specs.BusBytes.{number_with, byte_kind, role_after, acknowledge_kind}
 use Rattle.vcd_decode.specs.BusBytes.{ten_bit_address}
@@ -122,20 +119,6 @@ bus_after (Some t) (events.Bit b) = Some (transfer_after_bit t b)
 unfoldable pub walk_annotations : Option Transfer → List BusEvent → List Annotation
 walk_annotations bus [] = []
 walk_annotations bus (e ∷ es) = event_annotations bus e ++ walk_annotations (bus_after bus e) es
-
--- ---- bits that are in no annotation
-
--- of the bits since the last condition, if there was one, those that no annotation shows
-abbrev pub bits_of_no_byte : (last : Option BusEvent) → (bits : ℕ) → ℕ
-bits_of_no_byte None bits = 0
-bits_of_no_byte (Some (events.Start t)) bits = bits % 9
-bits_of_no_byte (Some e) bits = bits
-
--- those after the last condition of all, given the last so far, the bits since then, and the events
--- to come
-abbrev pub bits_after_last : (last : Option BusEvent) → (bits : ℕ) → List BusEvent → ℕ
-bits_after_last last bits es = if list_any is_condition es then bits_after_last_byte es
-    else bits_of_no_byte last (bits + length (bits_until es))
 
 -- ---- edges
 

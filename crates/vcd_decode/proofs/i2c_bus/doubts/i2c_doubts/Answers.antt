@@ -1,18 +1,18 @@
 use Rattle.std.proofs.Common.{ap, sym, subst, ◌∙◌, length, All, arith}
 use Rattle.vcd_decode.specs.WaveLines.{line_of}
-use Rattle.vcd_decode.specs.LastBits.{bits_after_last_byte}
 use Rattle.vcd_decode.specs.inside.i2c_bus.BusWalk.{edge_events, IsBusEdge}
+use Rattle.vcd_decode.specs.inside.i2c_bus.DoubtsSoFar.{AreDoubtsOf}
 use Rattle.vcd_decode.proofs.i2c_bus.bus_walk.EventsOfTicks.{events_are_few}
 use Rattle.vcd_decode.proofs.i2c_bus.bus_walk.EventByEvent.{events_are, each_is_bus_edge}
-use Rattle.vcd_decode.proofs.i2c_bus.bus_walk.i2c_bits_after_last_byte.Goals as goal
+use Rattle.vcd_decode.proofs.i2c_bus.doubts.i2c_doubts.Goals as goal
 
-pub count_bits_after-requires-clause-lines : goal.count_bits_after-requires-clause-lines
-count_bits_after-requires-clause-lines c = subst (All IsBusEdge)
+pub count_doubts-requires-clause-lines : goal.count_doubts-requires-clause-lines
+count_doubts-requires-clause-lines c = subst (All IsBusEdge)
     (sym (c.new.ensures.edges c.args.end (c.requires.scl_ends, (c.requires.sda_ends, (tt, (tt, tt))))))
     (each_is_bus_edge c.args.scl.now c.args.sda.now c.args.end)
 
-pub count_bits_after-requires-clause-few : goal.count_bits_after-requires-clause-few
-count_bits_after-requires-clause-few c =
+pub count_doubts-requires-clause-few : goal.count_doubts-requires-clause-few
+count_doubts-requires-clause-few c =
     let edges = c.new.ensures.edges c.args.end (c.requires.scl_ends, (c.requires.sda_ends, (tt, (tt, tt)))) in
     omega (
       arith,
@@ -25,5 +25,11 @@ count_bits_after-requires-clause-few c =
 pub returns : goal.returns
 returns c =
     let edges = c.new.ensures.edges c.args.end (c.requires.scl_ends, (c.requires.sda_ends, (tt, (tt, tt)))) in
-    c.count_bits_after.ensures ∙ ap (λ es. bits_after_last_byte (edge_events es)) edges
-    ∙ ap bits_after_last_byte (events_are c.args.scl.now c.args.sda.now c.args.end)
+    let found = subst (AreDoubtsOf c.count_doubts.result)
+    (ap edge_events edges ∙ events_are c.args.scl.now c.args.sda.now c.args.end) c.count_doubts.ensures in record {
+      early = found.early;
+      after_stops = found.after_stops;
+      last = found.last;
+      acknowledges = found.acknowledges;
+      transfer = found.transfer;
+    }

@@ -1,0 +1,2 @@
+-- Lemmas of `i2c_bus/doubts`.
+pub mod DoubtsOfEvents
