@@ -28,5 +28,6 @@ pub use laws::{
     invert_twice, last_force_counts, operators_have_their_tables, outline_decides_faults,
     remove_and_back, rename_and_back, shift_and_back, shift_fills_gaps,
 };
+pub use plans::inverse_of;
 pub use record::Record;
 pub use reverting::revert;

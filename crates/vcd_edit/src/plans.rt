@@ -21,6 +21,7 @@ mod shift;
 
 use crate::edit::Edit;
 use crate::record::Record;
+pub use invert::inverse_of;
 use std::alloc::Global;
 use vcd_core::{Capture, NoMemory};
 

@@ -7,8 +7,11 @@ pub mod StretchesFound
 pub mod ShortRunsLeft
 pub mod PlacesShown
 pub mod FallsLeft
+pub mod ShortestRun
 pub mod AllRuns
 pub mod NoFrame
 pub mod IdleLines
 pub mod PulsesTakenOut
+pub mod InvertedTwice
 pub mod DelaysAtTicks
+pub mod NamesOfSeveral

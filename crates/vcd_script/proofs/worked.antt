@@ -1,3 +1,5 @@
 -- Worked cases.
 pub mod HollowRun
 pub mod Remarks
+pub mod SpiRemarks
+pub mod NameRemarks

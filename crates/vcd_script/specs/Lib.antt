@@ -12,6 +12,7 @@ pub mod Queries
 pub mod CommandSignals
 pub mod DecoderReply
 pub mod Reply
+pub mod SpiRemarks
 pub mod Remarks
 pub mod RemarkLaws
 pub mod SessionLines
@@ -19,6 +20,7 @@ pub mod LineRunEnds
 pub mod Run
 pub mod HollowRun
 pub mod HollowPart
+pub mod NameRemarks
 pub mod RemarksOfRun
 pub mod SessionRemarks
 pub mod FileLaws

@@ -1,31 +1,44 @@
 -- What there is to say of a command beyond its reply: what an edit takes out of a signal, where a
--- decoder can't read its lines, what of it may have begun before tick 0, and what the end leaves of
--- a transfer. The project's own.
-use Rattle.std.specs.Prelude.{ℕ, zero, ◌+◌, ◌-◌, ◌==◌, ◌&&◌, ◌||◌, nat_lt, nat_le, int_lt, ℤ}
-use Rattle.std.specs.Prelude.{pos, ◌+ℤ◌, unsigned_abs, min}
+-- decoder can't read its lines, what of it may have begun before tick 0, and what of a bus is not
+-- decoded or may be wrong. The project's own.
+use Rattle.std.specs.Prelude.{ℕ, zero, suc, ◌+◌, ◌-◌, ◌*◌, ◌==◌, ◌&&◌, ◌||◌, nat_lt, nat_le, ℤ}
+use Rattle.std.specs.Prelude.{int_lt, pos, ◌+ℤ◌, unsigned_abs, min}
 use Rattle.std.specs.Prelude.{max, Bool, true, false, not, if◌then◌else◌, Option, Some, None}
-use Rattle.std.specs.Prelude.{is_some, List, [], ◌∷◌, ◌++◌, map, take, length, codes}
-use Rattle.std.specs.List.{filter, flat_map, count_by, join_by}
+use Rattle.std.specs.Prelude.{is_some, List, [], ◌∷◌, ◌++◌, map, take, drop, length, codes, nat_eq}
+use Rattle.std.specs.Prelude.{slice_get}
+use Rattle.std.specs.Option.{option_to_list}
+use Rattle.std.specs.List.{ends_with, filter, flat_map, count_by, join_by, list_any}
 use Rattle.std.specs.Fmt.{decimal}
+use Rattle.std.specs.Int.{div_ceil}
+use Rattle.std.specs.Path.{rfind_below}
 use Rattle.vcd_core.specs.declared.bit.Bit.{Bit}
 use Rattle.vcd_core.specs.declared.bit.Bit.TheVariants.{X, Z}
 use Rattle.vcd_core.specs.declared.wave.Change.{Change}
 use Rattle.vcd_core.specs.Value.{all_x, letter_at, same_letters}
 use Rattle.vcd_core.specs.Wave.{change}
-use Rattle.vcd_core.specs.Contents.{Contents, SignalContents, signal_at}
+use Rattle.vcd_core.specs.Contents.{Contents, SignalContents, signal_at, signal_value}
+use Rattle.vcd_decode.specs.BusDoubts.{bits_after_stops, doubtful_acknowledges, ends_in_transfer}
+use Rattle.vcd_decode.specs.BusDoubts.{joint_edges}
 use Rattle.vcd_decode.specs.BusEvents.{bus_events}
 use Rattle.vcd_decode.specs.I2c.{bits_until}
 use Rattle.vcd_decode.specs.LastBits.{bits_after_last_byte}
 use Rattle.vcd_decode.specs.Lines.{is_zero, is_one}
-use Rattle.vcd_decode.specs.Uart.{last_bit, sample_offset}
+use Rattle.vcd_decode.specs.SpiSetup.{SpiSetup}
+use Rattle.vcd_decode.specs.Uart.{last_bit, sample_offset, uart_annotations}
+use Rattle.vcd_decode.specs.UartEdges.{edges_amid_bits}
 use Rattle.vcd_decode.specs.UartSetup.{UartSetup}
 use Rattle.vcd_edit.specs.declared.edit.Edit.{Edit}
-use Rattle.vcd_edit.specs.declared.edit.Edit.TheVariants.{Shift, Cut, Deglitch}
+use Rattle.vcd_edit.specs.declared.edit.Edit.TheVariants.{Invert, Shift, Cut, Deglitch, Derive}
+use Rattle.vcd_edit.specs.declared.edit.Rule.{Rule}
+use Rattle.vcd_edit.specs.declared.edit.Rule.TheVariants.{BitOf}
 use Rattle.vcd_edit.specs.Effect.{signal_bit}
 use Rattle.vcd_edit.specs.EditFaults.{edit_fault}
 use Rattle.vcd_journal.specs.declared.step.Step.TheVariants as steps
 use Rattle.vcd_script.specs.declared.script.command.Command.{Command}
 use Rattle.vcd_script.specs.declared.script.command.Command.TheVariants as commands
+use Rattle.vcd_script.specs.SpiRemarks.{unclear_text, moving_text, unclear_count, moving_count}
+use Rattle.vcd_script.specs.SpiRemarks.{changes_after_text, count_if_more, changes_after_count}
+use Rattle.vcd_script.specs.SpiRemarks.{changes_before_count, spikes_text, unselected_remark}
 
 -- ---- runs of one value
 
@@ -126,7 +139,7 @@ delays_after_pulses ticks end runs =
 
 -- by how much one of them is late at most
 abbrev pub delay_text : (delay : ℕ) → List ℕ
-delay_text delay = codes " (late by at most " ++ decimal delay ++ codes " ticks)"
+delay_text delay = codes " (ticks late at most: " ++ decimal delay ++ codes ")"
 
 -- the remark on edges with these delays; none if there is none
 abbrev pub delays_remark : (delays : List ℕ) → List (List ℕ)
@@ -151,9 +164,15 @@ deglitch_remarks ticks end runs = deglitch_remark (filter (is_pulse ticks end) r
 abbrev pub is_moved_before_zero : (by : ℤ) → Change → Bool
 is_moved_before_zero by c = nat_lt 0 c.tick && int_lt (pos c.tick +ℤ by) (pos 0)
 
--- how many ticks at the end have the last value only since a shift moves it there
+-- which ticks a shift fills, and with what
+abbrev pub filled_text : (by : ℤ) → List ℕ
+filled_text by =
+    if int_lt by (pos 0) then codes "shift: ticks at the end filled with the last value: "
+    else codes "shift: ticks at the beginning filled with x: "
+
+-- how many ticks at one end a shift fills
 abbrev pub ticks_filled : (end : ℕ) → (by : ℤ) → ℕ
-ticks_filled end by = if int_lt by (pos 0) then min (unsigned_abs by) (end + 1) else 0
+ticks_filled end by = min (unsigned_abs by) (end + 1)
 
 -- the remarks on a `shift` of these changes, in a capture up to this end
 abbrev pub shift_remarks : (end : ℕ) → (by : ℤ) → List Change → List (List ℕ)
@@ -162,21 +181,74 @@ shift_remarks end by changes =
     (count_by (λ c. int_lt (pos end) (pos c.tick +ℤ by)) changes)
     ++ count_remark (codes "shift: edges moved before tick 0: ")
     (count_by (is_moved_before_zero by) changes)
-    ++ count_remark (codes "shift: ticks at the end filled with the last value: ")
-    (ticks_filled end by)
+    ++ count_remark (filled_text by) (ticks_filled end by)
 
--- the remark on a cut from this tick on; a cut from tick 0 on joins nothing
-abbrev pub cut_remarks : (from : ℕ) → List (List ℕ)
-cut_remarks from = count_remark
-    (codes "cut: the capture is joined, so what is decoded from there on may be wrong: at tick ")
-    from
+-- whether a letter is z
+abbrev pub is_z : Bit → Bool
+is_z Z = true
+is_z b = false
+
+-- the remark on an `invert` of these changes; none if they have no z
+abbrev pub invert_remarks : List Change → List (List ℕ)
+invert_remarks changes = count_remark (codes "invert: changes with z, which becomes x: ")
+    (count_by (λ c. list_any is_z c.value) changes)
+
+-- whether a `:` (58) comes behind the last `[` (91) of a word
+abbrev pub has_colon_in_brackets : List ℕ → Bool
+has_colon_in_brackets word = list_any (λ bracket. list_any (λ b. b == 58) (drop bracket word))
+    (option_to_list (rfind_below 91 word (length word)))
+
+-- whether a word of a name ends with a range whose right end is not 0, such as `[31:2]` or `[0:7]`;
+-- an index such as `[3]` is none
+abbrev pub is_other_range : List ℕ → Bool
+is_other_range word =
+    has_colon_in_brackets word && ends_with nat_eq word (codes "]")
+    && not (ends_with nat_eq word (codes ":0]"))
+
+-- whether the last of some words is such a range
+abbrev pub ends_with_other_range : List (List ℕ) → Bool
+ends_with_other_range words =
+    list_any is_other_range (option_to_list (slice_get words (length words - 1)))
+
+-- whether the name of a signal of several bits ends with such a range
+abbrev pub has_other_range : SignalContents → Bool
+has_other_range s = nat_lt 1 s.width && ends_with_other_range s.words
+
+-- what is said of a bit of a signal whose name has another range
+abbrev pub bit_text : (bit : ℕ) → List ℕ
+bit_text bit =
+    codes "derive: bits count from 0 at the right end, not as the name's range says: bit "
+    ++ decimal bit
+
+-- the remark on a rule that takes a bit of such a signal
+abbrev pub rule_remarks : Rule → Contents → List (List ℕ)
+rule_remarks (BitOf k bit) c =
+    if has_other_range (signal_at c k) then bit_text bit ∷ [] else []
+rule_remarks rule c = []
+
+-- what is said of a cut from tick 0 on, which joins nothing
+abbrev pub fewer_text : (fewer : ℕ) → List ℕ
+fewer_text fewer = codes "cut: later ticks are " ++ decimal fewer ++ codes " fewer from here on"
+
+-- what is said of another cut
+abbrev pub joined_text : (from fewer : ℕ) → List ℕ
+joined_text from fewer =
+    codes "cut: the capture is joined at tick " ++ decimal from ++ codes ", and later ticks are "
+    ++ decimal fewer
+    ++ codes " fewer from here on: what is decoded across the join may be wrong"
+
+-- the remark on a cut of this many ticks
+abbrev pub cut_remark : (from fewer : ℕ) → List ℕ
+cut_remark from fewer = if from == 0 then fewer_text fewer else joined_text from fewer
 
 -- the remarks on an edit that is not refused
 abbrev pub edit_remarks : Edit → Contents → List (List ℕ)
 edit_remarks (Deglitch k ticks) c =
     deglitch_remarks ticks c.end (value_runs c.end (signal_at c k))
 edit_remarks (Shift k by) c = shift_remarks c.end by (signal_at c k).changes
-edit_remarks (Cut from to) c = cut_remarks from
+edit_remarks (Invert k) c = invert_remarks (signal_at c k).changes
+edit_remarks (Cut from to) c = cut_remark from (to - from) ∷ []
+edit_remarks (Derive word rule) c = rule_remarks rule c
 edit_remarks e c = []
 
 -- ---- decoders
@@ -245,6 +317,63 @@ idle_remark ticks end s =
     && not (is_idle_first ticks (value_runs end s))
     then frame_text ∷ [] else []
 
+-- the least number of ticks that lasts as long as this many sixths of a bit
+abbrev pub sixths_of_bit : (count : ℕ) → UartSetup → ℕ
+sixths_of_bit count u = div_ceil (count * u.numerator) (6 * u.denominator)
+
+-- how many runs of a signal have fewer ticks, and contain neither tick 0 nor the end
+abbrev pub shorter_runs : (ticks end : ℕ) → SignalContents → ℕ
+shorter_runs ticks end s = length (filter (is_pulse ticks end) (value_runs end s))
+
+-- the remark on such runs of a line that are shorter than two thirds of a bit; none without any
+abbrev pub short_runs_remark : UartSetup → (end : ℕ) → SignalContents → List (List ℕ)
+short_runs_remark u end s =
+    count_remark (codes "uart: runs of fewer ticks than two thirds of a bit, such as spikes: ")
+    (shorter_runs (sixths_of_bit 4 u) end s)
+
+-- the lesser of two numbers above 0; the other one if one is 0
+abbrev pub lesser : (m n : ℕ) → ℕ
+lesser zero n = n
+lesser (suc m) zero = suc m
+lesser (suc m) (suc n) = min (suc m) (suc n)
+
+-- the least of those of some numbers that are above 0; 0 if there is none
+unfoldable pub least : List ℕ → ℕ
+least [] = 0
+least (n ∷ ns) = lesser n (least ns)
+
+-- the ticks from one change to the next, the first from this tick on
+unfoldable pub ticks_between : (before : ℕ) → List Change → List ℕ
+ticks_between before [] = []
+ticks_between before (c ∷ cs) = (c.tick - before) ∷ ticks_between c.tick cs
+
+-- how many ticks the shortest run of a signal has, but for that at the end; 0 if there is none
+abbrev pub shortest_run : SignalContents → ℕ
+shortest_run s = least (ticks_between 0 s.changes)
+
+-- whether a line falls, and has runs that contain neither tick 0 nor the end, none of fewer ticks
+abbrev pub has_long_runs : (ticks end : ℕ) → SignalContents → Bool
+has_long_runs ticks end s =
+    has_fall X (map (λ d. letter_at d.value 0) s.changes)
+    && nat_lt 0 (shorter_runs end end s) && shorter_runs ticks end s == 0
+
+-- the text of the remark on a line without shorter runs
+abbrev pub long_runs_text : List ℕ
+long_runs_text =
+    codes "uart: no run within the line is shorter than one and a half bits: is BIT right?"
+
+-- the remark on such a line
+abbrev pub long_runs_remark : UartSetup → (end : ℕ) → SignalContents → List (List ℕ)
+long_runs_remark u end s =
+    if has_long_runs (sixths_of_bit 9 u) end s then long_runs_text ∷ [] else []
+
+-- the remark on edges of a line that come amid the bits of its frames; none without any
+abbrev pub frame_edges_remark : UartSetup → (end : ℕ) → SignalContents → List (List ℕ)
+frame_edges_remark u end s =
+    count_remark (codes "uart: edges within frames more than a quarter of a bit early or late "
+    ++ codes "(is BIT right?): ")
+    (edges_amid_bits u s.changes (uart_annotations (λ t. letter_at (signal_value s t) 0) end u))
+
 -- the text of the remark on a CS that is 0 at tick 0
 abbrev pub selected_text : List ℕ
 selected_text = codes "spi: CS is 0 at tick 0: words are counted from there, and until CS is 1 "
@@ -254,6 +383,43 @@ selected_text = codes "spi: CS is 0 at tick 0: words are counted from there, and
 abbrev pub without_cs_text : List ℕ
 without_cs_text = codes "spi: without CS words are counted from tick 0: if one began before, all "
     ++ codes "may be wrong"
+
+-- the text of the remark on a CS that is 0 at the end
+abbrev pub unfinished_text : List ℕ
+unfinished_text =
+    codes "spi: CS is 0 at the end: the last word or transfer may go on past it"
+
+-- the remarks on the bits of a bus that are not decoded
+abbrev pub undecoded_remarks : (early after_stops last : ℕ) → List (List ℕ)
+undecoded_remarks early after_stops last =
+    count_remark (codes "i2c: bits before the first start or stop, which are not decoded: ") early
+    ++ count_remark (codes "i2c: bits after a stop and before the next start or stop, "
+    ++ codes "which are not decoded: ") after_stops
+    ++ count_remark (codes "i2c: bits after the last byte, which are not decoded: ") last
+
+-- the text of the remark on a bus whose last condition is a START
+abbrev pub open_transfer_text : List ℕ
+open_transfer_text = codes "i2c: the last transfer has no stop"
+
+-- the remarks on transfers that may be decoded wrongly
+abbrev pub transfer_remarks : (doubtful : ℕ) → (ends_in_transfer : Bool) → List (List ℕ)
+transfer_remarks doubtful ends_in_transfer =
+    count_remark (codes "i2c: acknowledges with no bit between them and a start or stop, "
+    ++ codes "so that perhaps none was sent: ") doubtful
+    ++ (if ends_in_transfer then open_transfer_text ∷ [] else [])
+
+-- the remark on ticks at which both lines of a bus change; none if there is none
+abbrev pub joint_edges_remark : ℕ → List (List ℕ)
+joint_edges_remark = count_remark (codes "i2c: ticks at which SCL and SDA change, "
+    ++ codes "so that a start or stop may be lost, or a bit be wrong: ")
+
+-- the remarks on a bus, beyond those on each of its lines
+abbrev pub bus_remarks : (scl sda : ℕ → Bit) → (end : ℕ) → List (List ℕ)
+bus_remarks scl sda end =
+    let es = bus_events scl sda end in
+    undecoded_remarks (length (bits_until es)) (bits_after_stops es) (bits_after_last_byte es)
+    ++ transfer_remarks (doubtful_acknowledges es) (ends_in_transfer es)
+    ++ joint_edges_remark (joint_edges scl sda end)
 
 -- on a capture
 module _ (c : Contents) where
@@ -267,22 +433,33 @@ module _ (c : Contents) where
   optional_line_remark line None = []
   optional_line_remark line (Some k) = line_remark false line k
 
+  -- how many runs of a data line at a position are shorter than each of CLK, but contain neither
+  -- tick 0 nor the end; none if it is absent
+  abbrev pub spike_count : (clk : ℕ) → (line : Option ℕ) → ℕ
+  spike_count clk None = 0
+  spike_count clk (Some k) =
+      shorter_runs (shortest_run (signal_at c clk)) c.end (signal_at c k)
+
+  -- the remarks on the samples of a data line of `spi`
+  abbrev pub samples_remarks : SpiSetup → (clk : ℕ) → (cs : Option ℕ) → (name : List ℕ)
+      → (line : Option ℕ) → List (List ℕ)
+  samples_remarks u clk cs name line =
+      count_remark (unclear_text name) (unclear_count c u clk cs line)
+      ++ count_remark (moving_text name) (moving_count c u clk cs line)
+      ++ count_remark (changes_after_text name) (count_if_more (changes_after_count c u clk cs line)
+      (changes_before_count c u clk cs line))
+      ++ count_remark (spikes_text name) (spike_count clk line)
+
   -- the remark on a CS that is 0 at tick 0, or absent
   abbrev pub selected_remark : Option ℕ → List (List ℕ)
   selected_remark None = without_cs_text ∷ []
   selected_remark (Some k) = if is_zero (signal_bit c k 0 0) then selected_text ∷ [] else []
 
-  -- the remark on the bits of a bus before its first condition; none if there is none
-  abbrev pub early_bits_remark : (scl sda : ℕ) → List (List ℕ)
-  early_bits_remark scl sda =
-      count_remark (codes "i2c: bits before the first start or stop, which are not decoded: ")
-      (length (bits_until (bus_events (signal_bit c scl 0) (signal_bit c sda 0) c.end)))
-
-  -- the remark on the bits of a bus after its last byte; none if there is none
-  abbrev pub last_bits_remark : (scl sda : ℕ) → List (List ℕ)
-  last_bits_remark scl sda =
-      count_remark (codes "i2c: bits after the last byte, which are not decoded: ")
-      (bits_after_last_byte (bus_events (signal_bit c scl 0) (signal_bit c sda 0) c.end))
+  -- the remark on a CS that is 0 at the end
+  abbrev pub unfinished_remark : Option ℕ → List (List ℕ)
+  unfinished_remark None = []
+  unfinished_remark (Some k) =
+      if is_zero (signal_bit c k 0 c.end) then unfinished_text ∷ [] else []
 
 -- ---- all commands
 
@@ -293,14 +470,18 @@ remarks c (commands.Step (steps.Edit e)) =
 remarks c (commands.Uart k setup) =
     line_remark c false (codes "uart: the line") k ++ fall_remark (signal_at c k).changes
     ++ idle_remark (frame_ticks setup) c.end (signal_at c k)
+    ++ short_runs_remark setup c.end (signal_at c k)
+    ++ long_runs_remark setup c.end (signal_at c k)
+    ++ frame_edges_remark setup c.end (signal_at c k)
 remarks c (commands.Spi clk mosi miso cs setup) =
     line_remark c false (codes "spi: CLK") clk
-    ++ optional_line_remark c (codes "spi: MOSI") mosi
-    ++ optional_line_remark c (codes "spi: MISO") miso
-    ++ optional_line_remark c (codes "spi: CS") cs ++ selected_remark c cs
+    ++ samples_remarks c setup clk cs (codes "MOSI") mosi
+    ++ samples_remarks c setup clk cs (codes "MISO") miso
+    ++ optional_line_remark c (codes "spi: CS") cs
+    ++ selected_remark c cs ++ unselected_remark c cs ++ unfinished_remark c cs
 remarks c (commands.I2c scl sda) =
     line_remark c true (codes "i2c: SCL") scl ++ line_remark c true (codes "i2c: SDA") sda
-    ++ early_bits_remark c scl sda ++ last_bits_remark c scl sda
+    ++ bus_remarks (signal_bit c scl 0) (signal_bit c sda 0) c.end
 remarks c command = []
 
 -- the text of a remark on the line of this number, with a line feed (10) at its end

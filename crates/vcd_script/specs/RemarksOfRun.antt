@@ -1,5 +1,5 @@
 -- The remarks on the lines of a run. The project's own.
-use Rattle.std.specs.Prelude.{◌≡◌, ℕ, ◌+◌, Bool, List, [], Result, Ok, Err}
+use Rattle.std.specs.Prelude.{◌≡◌, ℕ, ◌+◌, Bool, List, [], ◌++◌, Result, Ok, Err}
 use Rattle.std.specs.List.{enumerate_from, flat_map}
 use Rattle.vcd_core.specs.Contents.{Contents}
 use Rattle.vcd_edit.specs.OtherWaves.{with_others, HaveOwn, OtherChanges}
@@ -9,16 +9,18 @@ use Rattle.vcd_script.specs.declared.script.line_error.LineError.{LineError}
 use Rattle.vcd_script.specs.ScriptCommands.{command_of_line}
 use Rattle.vcd_script.specs.Run.{capture_at}
 use Rattle.vcd_script.specs.HollowRun.{waves_of_command, origins_asked, AreHeard}
+use Rattle.vcd_script.specs.NameRemarks.{name_remarks}
 use Rattle.vcd_script.specs.Remarks.{remarks, remarks_text}
 
--- the remarks on what a line asks for; on a line that is no command there are none
-abbrev pub remarks_asked : Contents → Result Command LineError → List (List ℕ)
-remarks_asked c (Ok command) = remarks c command
-remarks_asked c (Err found) = []
+-- the remarks on a line, by what it asks for: on its names, and then on the command; on a line that
+-- is no command there are none
+abbrev pub remarks_asked : Contents → (line : List ℕ) → Result Command LineError → List (List ℕ)
+remarks_asked c line (Ok command) = name_remarks c line command ++ remarks c command
+remarks_asked c line (Err found) = []
 
 -- the text of the remarks on the line of this number, which is read on this capture
 abbrev pub line_remarks : (number : ℕ) → Contents → List ℕ → List ℕ
-line_remarks number c line = remarks_text number (remarks_asked c (command_of_line c line))
+line_remarks number c line = remarks_text number (remarks_asked c line (command_of_line c line))
 
 -- the text of the remarks on lines, which are numbered from 1 on: each is read on the capture after
 -- the lines before it, from an empty history of this depth on

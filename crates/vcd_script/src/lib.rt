@@ -27,7 +27,7 @@ pub use laws::{
     remarks_on_hollow_captures, runs_on_hollow_captures, same_bytes_same_result,
     session_lines_are_run, session_remarks_are_run,
 };
-pub use remarks::{append_more, remarks_on};
+pub use remarks::{append_more, append_name, remarks_on};
 pub use replies::{Reply, answer_line};
 pub use running::remark_on_lines::{RemarkError, remark_on_lines};
 pub use running::run::run;

@@ -4,48 +4,59 @@ ghost use Rattle.std.specs.Prelude.{◌≡◌, ◌++◌, IfOk, OnOk};
 ghost use Rattle.vcd_core.specs.CaptureContents.{contents};
 ghost use Rattle.vcd_core.specs.Sound.{IsSound};
 ghost use Rattle.vcd_script.specs.CommandSignals.{HasCommandSignals};
+ghost use Rattle.vcd_script.specs.NameRemarks.{name_remarks};
 ghost use Rattle.vcd_script.specs.Remarks.{remarks, remarks_text};
 
 mod appending;
 mod beginnings;
+mod bus;
+mod cuts;
 mod decoders;
+mod derivations;
 mod edits;
+mod frame_edges;
+mod inversions;
+mod names;
 mod places;
 mod pulses;
+mod run_lengths;
 mod runs;
+mod samples;
 
 use crate::replies::MemoryResult;
 use crate::script::Command;
 pub use appending::append_more;
 use decoders::{append_i2c_remarks, append_spi_remarks, append_uart_remarks};
 use edits::append_edit_remarks;
+pub use names::append_name;
+use names::append_name_remarks;
 use std::alloc::Global;
 use vcd_core::Capture;
 use vcd_journal::Step;
 
-/// The remarks on a command, which the line of this number asks for on this capture: how many
-/// pulses a `deglitch` takes out, how long the longest is and the longest stretch of them, how many
-/// edges it makes late and by how many ticks at most, how many short runs it leaves at tick 0 and
-/// at the end, how many changes a `shift` moves past the end and edges before tick 0, how many
-/// ticks at the end it fills, where a `cut` joins the capture, where a decoder can't read its
-/// lines, that what it reads may have begun before tick 0, and how many bits the end leaves of a
-/// transfer. Each is a line that begins with the number. An edit that is refused has none, and
-/// neither has any other command.
+/// The remarks on the line of this number and on the command that it is on this capture: which of
+/// its names several signals have, what an edit takes out, moves, fills or leaves, and what a
+/// decoder can't read, leaves out, or may take for what it is not. Each is a line that begins with
+/// the number. An edit that is refused has at most those on names, and so has any other command.
 ///
-/// It takes a few steps for each change of the signals of the command, and the memory is that of
-/// the text.
+/// It takes a few steps for each change of the signals of the command, for `uart` a binary search
+/// for each sample of a frame, and for each of their names that the line has, at most two
+/// comparisons with each full name. The memory is that of the text.
 pub fn remarks_on(
     alloc: Global,
     capture: &Capture,
     number: u64,
+    line: &[u8],
     command: &Command,
 ) -> MemoryResult<Vec<u8>>
     requires sound { IsSound (contents capture.now) }
     requires signals { HasCommandSignals (contents capture.now) command.now }
     ensures { IfOk result (λ text. text.items
-        ≡ remarks_text number (remarks (contents capture.now) command.now)) }
+        ≡ remarks_text number (name_remarks (contents capture.now) line.now command.now
+        ++ remarks (contents capture.now) command.now)) }
 {
     let mut text = Vec::new(alloc);
+    append_name_remarks(&mut text, capture, number, line, command)?;
     append_remarks(&mut text, capture, number, command)?;
     Ok(text)
 }
@@ -73,8 +84,8 @@ fn append_remarks(
             mosi,
             miso,
             cs,
-            ..
-        } => append_spi_remarks(text, capture, number, *clk, *mosi, *miso, *cs),
+            setup,
+        } => append_spi_remarks(text, capture, number, *clk, *mosi, *miso, *cs, setup),
         Command::I2c { scl, sda } => append_i2c_remarks(text, capture, number, *scl, *sda),
         Command::Nothing
         | Command::Step(_)

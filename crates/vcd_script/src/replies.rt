@@ -10,7 +10,7 @@ mod waves;
 
 pub use answering::answer_line;
 pub(crate) use answering::is_no_memory;
-pub(crate) use decoding::scalar_wave;
+pub(crate) use decoding::{scalar_wave, wave_or_absent};
 pub use reply::Reply;
 use vcd_core::NoMemory;
 

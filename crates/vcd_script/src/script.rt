@@ -15,6 +15,7 @@ mod queries;
 mod splitting;
 
 pub use command::Command;
+pub(crate) use command_waves::signals_of_command;
 pub use command_waves::waves_of_command;
 pub use line::parse_line;
 pub use line_error::LineError;

@@ -52,8 +52,8 @@ fn inverse_changes(
     Ok(inverse)
 }
 
-/// The value with each bit negated, 64 bits at a time.
-fn inverse_of(value: &Value) -> Value
+/// The value with each bit negated, where z becomes x, 64 bits at a time.
+pub fn inverse_of(value: &Value) -> Value
     ensures { result ≡ map not_bit value.now }
 {
     let mut blocks = [LetterBlock::filled(Bit::Zero); BLOCKS];

@@ -8,7 +8,7 @@ use Rattle.vcd_core.specs.Wave.{change}
 use Rattle.vcd_core.specs.Contents.{Contents, signal_at}
 use Rattle.vcd_script.specs.declared.remarks.pulses.Spans.{Spans}
 use Rattle.vcd_script.specs.Remarks.{ValueRun, run_begun, runs_begun, changes_from_zero, is_pulse, ticks_of_run}
-use Rattle.vcd_script.specs.Remarks.{greatest, deglitch_remark, value_runs}
+use Rattle.vcd_script.specs.Remarks.{greatest, deglitch_remark, value_runs, shorter_runs}
 use Rattle.vcd_script.specs.inside.remarks.Parts.{pulse_ticks, with_span, pulses_text}
 use Rattle.vcd_script.proofs.remarks.RunsLeft.{runs_left, no_runs_left}
 
@@ -83,6 +83,14 @@ pulses_of_changes ticks end width (c ∷ cs) = by_first (c.tick == 0) where
       ≡ filter (is_pulse ticks end) (runs_begun end (if b then c ∷ cs else change 0 (all_x width) ∷ c ∷ cs))
   by_first true = refl
   by_first false = refl
+
+-- those of a signal of a capture
+pub pulses_of_signal : (c : Contents) (k ticks end count : ℕ) (cs : List Change) → end ≡ c.end
+    → cs ≡ (signal_at c k).changes → count ≡ length (filter (is_pulse ticks end) (runs_begun end cs))
+    → count ≡ shorter_runs ticks c.end (signal_at c k)
+pulses_of_signal c k ticks end count cs ends same is =
+    is ∙ (λ i. length (filter (is_pulse ticks (ends i)) (runs_begun (ends i) (same i))))
+    ∙ ap length (pulses_of_changes ticks c.end (signal_at c k).width (signal_at c k).changes)
 
 -- ---- the remark
 

@@ -79,10 +79,10 @@ module _ (others : List OtherChanges) (c : Contents) where
 
   -- ---- signals
 
-  same_bits : (k : ℕ) → HaveOwn others (k ∷ []) → signal_bit replaced k 0 ≡ signal_bit c k 0
+  pub same_bits : (k : ℕ) → HaveOwn others (k ∷ []) → signal_bit replaced k 0 ≡ signal_bit c k 0
   same_bits k own = λ i t. letter_at (signal_value (same_signal others c k own.0 i) t) 0
 
-  same_bits_if_there : (o : Option ℕ) → HaveOwn others (option_to_list o)
+  pub same_bits_if_there : (o : Option ℕ) → HaveOwn others (option_to_list o)
       → option_map (λ k. signal_bit replaced k 0) o ≡ option_map (λ k. signal_bit c k 0) o
   same_bits_if_there None own = refl
   same_bits_if_there (Some k) own = λ i. Some (same_bits k own i)

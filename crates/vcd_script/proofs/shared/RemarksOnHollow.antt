@@ -1,18 +1,25 @@
 -- Remarks on captures that lack the waves of silent signals: those on each line are the same.
 use Rattle.std.proofs.Common.{◌≡◌, ℕ, ◌+◌, Bool, List, [], ◌∷◌, ◌++◌, Result, Ok, Err, false, length, map, refl, ap}
-use Rattle.std.proofs.Common.{◌∙◌, true, Option, Some, None, if◌then◌else◌}
+use Rattle.std.proofs.Common.{◌∙◌, sym, true, Option, Some, None, if◌then◌else◌}
 use Rattle.std.specs.Prelude.{codes, is_some}
-use Rattle.std.specs.List.{AllByRecursion, enumerate_from, filter, flat_map}
+use Rattle.std.specs.List.{AllByRecursion, enumerate_from, filter, flat_map, list_any}
 use Rattle.std.specs.Option.{option_to_list}
 use Rattle.vcd_core.specs.Contents.{Contents, signal_value}
+use Rattle.vcd_core.specs.Names.{full_names}
 use Rattle.vcd_core.specs.Value.{letter_at}
-use Rattle.vcd_decode.specs.BusEvents.{bus_events}
-use Rattle.vcd_decode.specs.I2c.{bits_until}
-use Rattle.vcd_decode.specs.LastBits.{bits_after_last_byte}
+use Rattle.vcd_core.proofs.shared.Outlines.{names_of_outline}
 use Rattle.vcd_decode.specs.Lines.{is_zero}
+use Rattle.vcd_decode.specs.SpiSamples.{unclear_samples, moving_samples}
+use Rattle.vcd_decode.specs.SpiSamples.{changes_after_samples, changes_before_samples}
+use Rattle.vcd_decode.specs.SpiSetup.{SpiSetup}
+use Rattle.vcd_edit.specs.Effect.{signal_bit}
 use Rattle.vcd_edit.specs.OtherWaves.{OtherChanges, with_others, HaveOwn, waves_read}
 use Rattle.vcd_edit.specs.declared.edit.Edit.{Edit}
-use Rattle.vcd_edit.specs.declared.edit.Edit.TheVariants.{Shift, Deglitch}
+use Rattle.vcd_edit.specs.declared.edit.Edit.TheVariants.{Invert, Shift, Deglitch, Derive}
+use Rattle.vcd_edit.specs.declared.edit.Rule.{Rule}
+use Rattle.vcd_edit.specs.declared.edit.Rule.TheVariants.{BitOf}
+use Rattle.vcd_edit.specs.Effect.{formula}
+use Rattle.vcd_edit.specs.EditFaults.{operands}
 use Rattle.vcd_edit.proofs.shared.Outlines.{fault_is_of_outline}
 use Rattle.vcd_edit.proofs.shared.OtherWaves.{others_keep_outline, same_signal}
 use Rattle.vcd_journal.specs.declared.step.Step.TheVariants as steps
@@ -25,14 +32,21 @@ use Rattle.vcd_script.specs.declared.script.command.Command.TheVariants as comma
 use Rattle.vcd_script.specs.declared.script.line_error.LineError.{LineError}
 use Rattle.vcd_script.specs.ScriptCommands.{command_of_line}
 use Rattle.vcd_script.specs.HollowRun.{waves_asked, origins_of_line}
-use Rattle.vcd_script.specs.Remarks.{value_runs, deglitch_remarks, shift_remarks, edit_remarks, is_lost}
-use Rattle.vcd_script.specs.Remarks.{lost_letters, lost_remark, fall_remark, line_remark, optional_line_remark}
-use Rattle.vcd_script.specs.Remarks.{idle_remark, selected_text, selected_remark, count_remark, early_bits_remark}
-use Rattle.vcd_script.specs.Remarks.{last_bits_remark, frame_ticks, remarks, remarks_text}
+use Rattle.vcd_script.specs.NameRemarks.{signals_of_command, name_remark, name_remarks}
+use Rattle.vcd_script.specs.Remarks.{value_runs, deglitch_remarks, shift_remarks, invert_remarks, edit_remarks}
+use Rattle.vcd_script.specs.Remarks.{is_lost, lost_letters, lost_remark, fall_remark, line_remark, optional_line_remark}
+use Rattle.vcd_script.specs.Remarks.{idle_remark, selected_text, selected_remark, bus_remarks, count_remark}
+use Rattle.vcd_script.specs.Remarks.{has_other_range, bit_text, rule_remarks, shorter_runs, shortest_run}
+use Rattle.vcd_script.specs.Remarks.{frame_ticks, short_runs_remark, long_runs_remark, frame_edges_remark}
+use Rattle.vcd_script.specs.Remarks.{samples_remarks}
+use Rattle.vcd_script.specs.Remarks.{unfinished_text, unfinished_remark, remarks, remarks_text}
+use Rattle.vcd_script.specs.SpiRemarks.{unclear_text, moving_text, spikes_text, unselected_text, unselected_remark}
+use Rattle.vcd_script.specs.SpiRemarks.{changes_after_text, count_if_more}
 use Rattle.vcd_script.specs.RemarksOfRun.{remarks_asked, line_remarks, RemarksWithOthers, RemarksOnHollow}
 use Rattle.vcd_script.specs.Run.{history_at, capture_at}
 use Rattle.vcd_script.proofs.script.CommandsOfOutline.{command_is_of_outline}
 use Rattle.vcd_script.proofs.shared.HollowRuns.{IsHeard, all_split, all_of_each, have_own, histories, in_force_own}
+use Rattle.vcd_script.proofs.shared.HollowRuns.{same_bits as same_letters_of, same_bits_if_there}
 
 -- ---- the remarks on a command on a capture with other waves, none of which it asks for
 
@@ -50,29 +64,61 @@ module _ (others : List OtherChanges) (c : Contents) where
   same_line_if_there line None own = refl
   same_line_if_there line (Some k) own = same_line false line k own
 
+  -- the samples of a line, also if it is absent
+  same_samples : (u : SpiSetup) (clk : ℕ) (cs : Option ℕ) (name : List ℕ) (line : Option ℕ) → HaveOwn others (clk ∷ [])
+      → HaveOwn others (option_to_list cs) → HaveOwn others (option_to_list line)
+      → samples_remarks replaced u clk cs name line ≡ samples_remarks c u clk cs name line
+  same_samples u clk cs name None own select own_line = refl
+  same_samples u clk cs name (Some k) own select own_line = λ i.
+      count_remark (unclear_text name) (unclear_samples u (same_letters_of others c clk own i)
+      (same_letters_of others c k own_line i) (same_bits_if_there others c cs select i) c.end)
+      ++ count_remark (moving_text name) (moving_samples u (same_letters_of others c clk own i)
+      (same_letters_of others c k own_line i) (same_bits_if_there others c cs select i) c.end)
+      ++ count_remark (changes_after_text name) (count_if_more
+      (changes_after_samples u (same_letters_of others c clk own i)
+      (same_letters_of others c k own_line i) (same_bits_if_there others c cs select i) c.end)
+      (changes_before_samples u (same_letters_of others c clk own i)
+      (same_letters_of others c k own_line i) (same_bits_if_there others c cs select i) c.end))
+      ++ count_remark (spikes_text name)
+      (shorter_runs (shortest_run (same_signal others c clk own.0 i)) c.end (same_signal others c k own_line.0 i))
+
+  same_unselected : (o : Option ℕ) → HaveOwn others (option_to_list o)
+      → unselected_remark replaced o ≡ unselected_remark c o
+  same_unselected None own = refl
+  same_unselected (Some k) own = λ i.
+      if list_any (λ d. is_zero (letter_at d.value 0)) (same_signal others c k own.0 i).changes then []
+      else unselected_text ∷ []
+
   same_selection : (o : Option ℕ) → HaveOwn others (option_to_list o)
       → selected_remark replaced o ≡ selected_remark c o
   same_selection None own = refl
   same_selection (Some k) own = λ i.
       if is_zero (letter_at (signal_value (same_signal others c k own.0 i) 0) 0) then selected_text ∷ [] else []
 
-  same_bits : (scl sda : ℕ) → HaveOwn others (scl ∷ []) → HaveOwn others (sda ∷ [])
-      → early_bits_remark replaced scl sda ≡ early_bits_remark c scl sda
-  same_bits scl sda own other = λ i.
-      count_remark (codes "i2c: bits before the first start or stop, which are not decoded: ")
-      (length (bits_until (bus_events (λ t. letter_at (signal_value (same_signal others c scl own.0 i) t) 0)
-      (λ t. letter_at (signal_value (same_signal others c sda other.0 i) t) 0) c.end)))
+  same_last_selection : (o : Option ℕ) → HaveOwn others (option_to_list o)
+      → unfinished_remark replaced o ≡ unfinished_remark c o
+  same_last_selection None own = refl
+  same_last_selection (Some k) own = λ i.
+      if is_zero (letter_at (signal_value (same_signal others c k own.0 i) c.end) 0) then unfinished_text ∷ [] else []
 
-  same_last_bits : (scl sda : ℕ) → HaveOwn others (scl ∷ []) → HaveOwn others (sda ∷ [])
-      → last_bits_remark replaced scl sda ≡ last_bits_remark c scl sda
-  same_last_bits scl sda own other = λ i. count_remark (codes "i2c: bits after the last byte, which are not decoded: ")
-      (bits_after_last_byte (bus_events (λ t. letter_at (signal_value (same_signal others c scl own.0 i) t) 0)
-      (λ t. letter_at (signal_value (same_signal others c sda other.0 i) t) 0) c.end))
+  same_bus : (scl sda : ℕ) → HaveOwn others (scl ∷ []) → HaveOwn others (sda ∷ [])
+      → bus_remarks (signal_bit replaced scl 0) (signal_bit replaced sda 0) c.end
+      ≡ bus_remarks (signal_bit c scl 0) (signal_bit c sda 0) c.end
+  same_bus scl sda own other = λ i. bus_remarks (λ t. letter_at (signal_value (same_signal others c scl own.0 i) t) 0)
+      (λ t. letter_at (signal_value (same_signal others c sda other.0 i) t) 0) c.end
+
+  same_rule : (rule : Rule) → HaveOwn others (operands (formula rule))
+      → rule_remarks rule replaced ≡ rule_remarks rule c
+  same_rule (BitOf k bit) own = λ i.
+      if has_other_range (same_signal others c k own.0 i) then bit_text bit ∷ [] else []
+  same_rule rule own = refl
 
   same_edit : (e : Edit) → HaveOwn others (waves_read e) → edit_remarks e replaced ≡ edit_remarks e c
   same_edit (Deglitch k ticks) own = λ i.
       deglitch_remarks ticks c.end (value_runs c.end (same_signal others c k own.0 i))
   same_edit (Shift k by) own = λ i. shift_remarks c.end by (same_signal others c k own.0 i).changes
+  same_edit (Invert k) own = λ i. invert_remarks (same_signal others c k own.0 i).changes
+  same_edit (Derive word rule) own = same_rule rule own
   same_edit e own = refl
 
 pub remarks_with_others : RemarksWithOthers
@@ -83,33 +129,47 @@ remarks_with_others others c (commands.Step (steps.Edit e)) own = λ i.
 remarks_with_others others c (commands.Uart k setup) own = λ i.
     same_line others c false (codes "uart: the line") k own i ++ fall_remark (same_signal others c k own.0 i).changes
     ++ idle_remark (frame_ticks setup) c.end (same_signal others c k own.0 i)
+    ++ short_runs_remark setup c.end (same_signal others c k own.0 i)
+    ++ long_runs_remark setup c.end (same_signal others c k own.0 i)
+    ++ frame_edges_remark setup c.end (same_signal others c k own.0 i)
 remarks_with_others others c (commands.Spi clk mosi miso cs setup) own =
     let last = all_split _ (option_to_list mosi ++ option_to_list miso) (option_to_list cs) own.1 in
     let first = all_split _ (option_to_list mosi) (option_to_list miso) last.0 in
     λ i. same_line others c false (codes "spi: CLK") clk (own.0, tt) i
-    ++ same_line_if_there others c (codes "spi: MOSI") mosi first.0 i
-    ++ same_line_if_there others c (codes "spi: MISO") miso first.1 i
+    ++ same_samples others c setup clk cs (codes "MOSI") mosi (own.0, tt) last.1 first.0 i
+    ++ same_samples others c setup clk cs (codes "MISO") miso (own.0, tt) last.1 first.1 i
     ++ same_line_if_there others c (codes "spi: CS") cs last.1 i ++ same_selection others c cs last.1 i
+    ++ same_unselected others c cs last.1 i ++ same_last_selection others c cs last.1 i
 remarks_with_others others c (commands.I2c scl sda) own = λ i.
     same_line others c true (codes "i2c: SCL") scl (own.0, tt) i
-    ++ same_line others c true (codes "i2c: SDA") sda own.1 i ++ same_bits others c scl sda (own.0, tt) own.1 i
-    ++ same_last_bits others c scl sda (own.0, tt) own.1 i
+    ++ same_line others c true (codes "i2c: SDA") sda own.1 i ++ same_bus others c scl sda (own.0, tt) own.1 i
 remarks_with_others others c command own = refl
 
 -- ---- the remarks on a line
 
-asked_same : (others : List OtherChanges) (c : Contents) (parsed : Result Command LineError)
-    → HaveOwn others (waves_asked parsed) → remarks_asked (with_others others c) parsed ≡ remarks_asked c parsed
-asked_same others c (Ok command) own = remarks_with_others others c command own
-asked_same others c (Err found) own = refl
+-- names are those of the outline
+same_names : (others : List OtherChanges) (c : Contents)
+    → full_names (with_others others c).signals ≡ full_names c.signals
+same_names others c =
+    sym (names_of_outline (with_others others c).signals)
+    ∙ ap (λ (o : Contents). full_names o.signals) (others_keep_outline others c) ∙ names_of_outline c.signals
+
+asked_same : (others : List OtherChanges) (c : Contents) (line : List ℕ) (parsed : Result Command LineError)
+    → HaveOwn others (waves_asked parsed)
+    → remarks_asked (with_others others c) line parsed ≡ remarks_asked c line parsed
+unfolding name_remarks
+asked_same others c line (Ok command) own = λ i.
+    flat_map (name_remark (same_names others c i) line) (signals_of_command command)
+    ++ remarks_with_others others c command own i
+asked_same others c line (Err found) own = refl
 
 line_same : (others : List OtherChanges) (c : Contents) (number : ℕ) (line : List ℕ)
     → HaveOwn others (waves_asked (command_of_line c line))
     → line_remarks number (with_others others c) line ≡ line_remarks number c line
 line_same others c number line own =
-    ap (λ (parsed : Result Command LineError). remarks_text number (remarks_asked (with_others others c) parsed))
+    ap (λ (parsed : Result Command LineError). remarks_text number (remarks_asked (with_others others c) line parsed))
     (command_is_of_outline (with_others others c) c line (others_keep_outline others c))
-    ∙ ap (remarks_text number) (asked_same others c (command_of_line c line) own)
+    ∙ ap (remarks_text number) (asked_same others c line (command_of_line c line) own)
 
 -- ---- runs
 

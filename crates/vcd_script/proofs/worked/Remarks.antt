@@ -1,24 +1,28 @@
 -- Worked cases: the remarks on commands.
 use Rattle.std.proofs.Common.{◌≡◌, refl}
-use Rattle.std.specs.Prelude.{ℕ, List, [], ◌∷◌, ◌++◌, codes, pos, negsuc, Some, None}
+use Rattle.std.specs.Prelude.{ℕ, List, [], ◌∷◌, ◌++◌, codes, pos, negsuc, Some, None, map, true, false}
 use Rattle.std.specs.Fmt.{digits}
 use Rattle.vcd_core.specs.declared.bit.Bit.TheVariants.{Zero, One, X, Z}
 use Rattle.vcd_core.specs.declared.wave.Change.{Change}
-use Rattle.vcd_core.specs.Wave.{value_from}
+use Rattle.vcd_core.specs.Contents.{SignalContents}
+use Rattle.vcd_core.specs.Wave.{change, value_from}
 use Rattle.vcd_decode.specs.declared.uart_setup.Parity.TheVariants as parities
+use Rattle.vcd_decode.specs.BusDoubts.{bits_after_stops, doubtful_acknowledges, ends_in_transfer, joint_edges}
 use Rattle.vcd_decode.specs.BusEvents.{bus_events}
 use Rattle.vcd_decode.specs.I2c.{bits_until}
 use Rattle.vcd_decode.specs.LastBits.{bits_after_last_byte}
 use Rattle.vcd_decode.specs.SpiSetup.{SpiSetup}
-use Rattle.vcd_decode.specs.Uart.{sample_offset}
+use Rattle.vcd_decode.specs.Uart.{sample_offset, begun_frame, falls, frames, uart_annotations}
+use Rattle.vcd_decode.specs.UartEdges.{edges_amid_bits}
 use Rattle.vcd_decode.specs.UartSetup.{UartSetup, uart_setup}
 use Rattle.vcd_edit.specs.declared.edit.Edit.{Edit}
-use Rattle.vcd_edit.specs.declared.edit.Edit.TheVariants.{Shift, Cut, Deglitch}
+use Rattle.vcd_edit.specs.declared.edit.Edit.TheVariants.{Invert, Shift, Cut, Deglitch}
 use Rattle.vcd_edit.specs.EditFaults.{edit_fault}
 use Rattle.vcd_edit.proofs.worked.Records.{from, wire, capture, alone}
 use Rattle.vcd_journal.specs.declared.step.Step.TheVariants as steps
 use Rattle.vcd_script.specs.declared.script.command.Command.TheVariants as commands
 use Rattle.vcd_script.specs.Remarks.{runs_begun, greatest, stretches, edge_delays, has_fall, remarks}
+use Rattle.vcd_script.specs.Remarks.{short_runs_remark, long_runs_remark, frame_edges_remark, is_other_range}
 
 -- x up to the tick 1, pulses at 5, 7 and 9, and no change at 0
 abbrev rough : List Change
@@ -29,6 +33,12 @@ abbrev remarks_on_edit : Edit → List (List ℕ)
 remarks_on_edit e = remarks (alone 20 rough) (commands.Step (steps.Edit e))
 
 -- ---- edits
+
+-- ranges that do not end at 0, one that does, and names without one
+ranges : map is_other_range (codes "addr[31:2]" ∷ codes "d[0:7]" ∷ codes "[7:1]" ∷ codes "[7:0]" ∷ codes "mem[3]"
+    ∷ codes "m[1:0][3]" ∷ codes "a:b]" ∷ codes "foo]" ∷ codes "q" ∷ [])
+    ≡ true ∷ true ∷ true ∷ false ∷ false ∷ false ∷ false ∷ false ∷ false ∷ []
+ranges = refl
 
 -- the run of 0 from 2 to 4 has three ticks, and stays; x has two, and stays at tick 0
 three_pulses : remarks_on_edit (Deglitch 0 3) ≡ codes "deglitch: pulses removed: 3 (ticks of the longest: 2)"
@@ -44,7 +54,7 @@ no_pulse = refl
 -- the run of 0 from 2 to 4 is a pulse too, between x up to 1 and 0 from 10 on
 four_pulses : remarks_on_edit (Deglitch 0 4) ≡ codes "deglitch: pulses removed: 4 (ticks of the longest: 3)"
     ∷ codes "deglitch: ticks of the longest stretch removed, which pulses broke up: 8"
-    ∷ codes "deglitch: edges right after removed pulses: 1 (late by at most 8 ticks)"
+    ∷ codes "deglitch: edges right after removed pulses: 1 (ticks late at most: 8)"
     ∷ codes "deglitch: short runs at tick 0 or the end, which stay: 1" ∷ []
 unfolding remarks edit_fault runs_begun greatest stretches edge_delays digits
 four_pulses = refl
@@ -54,7 +64,7 @@ two_edges : remarks (alone 20 (from 0 Zero ∷ from 1 One ∷ from 2 Zero ∷ fr
     ∷ from 13 Zero ∷ [])) (commands.Step (steps.Edit (Deglitch 0 3)))
     ≡ codes "deglitch: pulses removed: 4 (ticks of the longest: 2)"
     ∷ codes "deglitch: ticks of the longest stretch removed, which pulses broke up: 3"
-    ∷ codes "deglitch: edges right after removed pulses: 2 (late by at most 3 ticks)"
+    ∷ codes "deglitch: edges right after removed pulses: 2 (ticks late at most: 3)"
     ∷ codes "deglitch: short runs at tick 0 or the end, which stay: 1" ∷ []
 unfolding remarks edit_fault runs_begun greatest stretches edge_delays digits
 two_edges = refl
@@ -79,11 +89,12 @@ unfolding remarks edit_fault runs_begun greatest stretches edge_delays digits
 refused = refl
 
 -- the change at 15 comes to 20, which is the end, and then past it
-up_to_the_end : remarks_on_edit (Shift 0 (pos 5)) ≡ []
+up_to_the_end : remarks_on_edit (Shift 0 (pos 5)) ≡ codes "shift: ticks at the beginning filled with x: 5" ∷ []
 unfolding remarks edit_fault digits
 up_to_the_end = refl
 
-past_the_end : remarks_on_edit (Shift 0 (pos 6)) ≡ codes "shift: changes moved past the end: 1" ∷ []
+past_the_end : remarks_on_edit (Shift 0 (pos 6)) ≡ codes "shift: changes moved past the end: 1"
+    ∷ codes "shift: ticks at the beginning filled with x: 6" ∷ []
 unfolding remarks edit_fault digits
 past_the_end = refl
 
@@ -99,13 +110,30 @@ no_edge_at_zero : remarks (alone 20 (from 0 One ∷ [])) (commands.Step (steps.E
 unfolding remarks edit_fault digits
 no_edge_at_zero = refl
 
+-- no tick is filled by a shift of 0, and all 21 by one past the end
+not_shifted : remarks_on_edit (Shift 0 (pos 0)) ≡ []
+unfolding remarks edit_fault digits
+not_shifted = refl
+
+all_filled : remarks (alone 20 []) (commands.Step (steps.Edit (Shift 0 (pos 99))))
+    ≡ codes "shift: ticks at the beginning filled with x: 21" ∷ []
+unfolding remarks edit_fault digits
+all_filled = refl
+
+-- of changes with z, which x and 0 do not count for
+inverted : remarks (capture 20 (record (wire (codes "bus") (change 2 (Z ∷ Zero ∷ []) ∷ change 5 (X ∷ One ∷ [])
+    ∷ change 7 (Z ∷ Z ∷ []) ∷ [])) { width = 2 } ∷ [])) (commands.Step (steps.Edit (Invert 0)))
+    ≡ codes "invert: changes with z, which becomes x: 2" ∷ []
+unfolding remarks edit_fault digits
+inverted = refl
+
 -- a cut from tick 0 on joins nothing
-joined : remarks_on_edit (Cut 4 9)
-    ≡ codes "cut: the capture is joined, so what is decoded from there on may be wrong: at tick 4" ∷ []
+joined : remarks_on_edit (Cut 4 9) ≡ (codes "cut: the capture is joined at tick 4, and later ticks are 5 fewer "
+    ++ codes "from here on: what is decoded across the join may be wrong") ∷ []
 unfolding remarks edit_fault digits
 joined = refl
 
-not_joined : remarks_on_edit (Cut 0 9) ≡ []
+not_joined : remarks_on_edit (Cut 0 9) ≡ codes "cut: later ticks are 9 fewer from here on" ∷ []
 unfolding remarks edit_fault digits
 not_joined = refl
 
@@ -115,6 +143,10 @@ not_joined = refl
 bytes : UartSetup
 bytes = uart_setup 5 1 8 parities.None 1
 
+-- a line that is 0 for 7 ticks
+abbrev late_run : SignalContents
+late_run = wire (codes "rx") (from 0 One ∷ from 50 Zero ∷ from 57 One ∷ [])
+
 -- the remark on a line that is not idle for them
 abbrev not_idle : List ℕ
 not_idle = codes "uart: the line is not idle for a frame from tick 0 on: if one began before, "
@@ -122,34 +154,74 @@ not_idle = codes "uart: the line is not idle for a frame from tick 0 on: if one 
 
 -- a line of that shape falls at 7
 rough_uart : remarks (alone 20 rough) (commands.Uart 0 bytes)
-    ≡ codes "uart: the line is x or z at 0-1, 9: edges and bits there are lost" ∷ not_idle ∷ []
-unfolding remarks runs_begun has_fall sample_offset digits bytes
+    ≡ codes "uart: the line is x or z at 0-1, 9: edges and bits there are lost" ∷ not_idle
+    ∷ codes "uart: runs of fewer ticks than two thirds of a bit, such as spikes: 4" ∷ []
+unfolding remarks runs_begun has_fall sample_offset edges_amid_bits uart_annotations frames falls begun_frame value_from
+    digits bytes
 rough_uart = refl
 
 -- a line without a change
 silent_uart : (setup : UartSetup) → remarks (alone 20 []) (commands.Uart 0 setup)
     ≡ codes "uart: the line is x or z at 0-20: edges and bits there are lost"
     ∷ codes "uart: the line never falls from 1 to 0: no frame begins" ∷ []
-unfolding remarks runs_begun has_fall digits
+unfolding remarks runs_begun has_fall edges_amid_bits digits
 silent_uart setup = refl
 
 -- a line that is idle for as many ticks, or for one tick less
 idle_uart : remarks (alone 60 (from 0 One ∷ from 48 Zero ∷ [])) (commands.Uart 0 bytes) ≡ []
-unfolding remarks runs_begun has_fall sample_offset digits bytes
+unfolding remarks runs_begun has_fall sample_offset edges_amid_bits uart_annotations frames falls begun_frame value_from
+    digits bytes
 idle_uart = refl
 
 hasty_uart : remarks (alone 60 (from 0 One ∷ from 47 Zero ∷ [])) (commands.Uart 0 bytes) ≡ not_idle ∷ []
-unfolding remarks runs_begun has_fall sample_offset digits bytes
+unfolding remarks runs_begun has_fall sample_offset edges_amid_bits uart_annotations frames falls begun_frame value_from
+    digits bytes
 hasty_uart = refl
+
+-- a run of 7 ticks, for bits of which it is two thirds, and less
+spike_uart : (bits stop : ℕ) → short_runs_remark (uart_setup 21 2 bits parities.None stop) 60 late_run ≡ []
+unfolding runs_begun digits
+spike_uart bits stop = refl
+
+shorter_uart : (bits stop : ℕ) → short_runs_remark (uart_setup 32 3 bits parities.None stop) 60 late_run
+    ≡ codes "uart: runs of fewer ticks than two thirds of a bit, such as spikes: 1" ∷ []
+unfolding runs_begun digits
+shorter_uart bits stop = refl
+
+-- and for bits of which it is one and a half, and more
+slow_uart : (bits stop : ℕ) → long_runs_remark (uart_setup 14 3 bits parities.None stop) 60 late_run
+    ≡ codes "uart: no run within the line is shorter than one and a half bits: is BIT right?" ∷ []
+unfolding runs_begun has_fall digits
+slow_uart bits stop = refl
+
+fast_uart : (bits stop : ℕ) → long_runs_remark (uart_setup 5 1 bits parities.None stop) 60 late_run ≡ []
+unfolding runs_begun has_fall digits
+fast_uart bits stop = refl
+
+-- its end is a quarter of a bit of 28 ticks after its start, and more than a quarter of one of 27; bits of 7 ticks fit
+quarter_uart : frame_edges_remark (uart_setup 28 1 8 parities.None 1) 60 late_run ≡ []
+unfolding sample_offset edges_amid_bits uart_annotations frames falls begun_frame value_from digits
+quarter_uart = refl
+
+late_uart : frame_edges_remark (uart_setup 27 1 8 parities.None 1) 60 late_run
+    ≡ codes "uart: edges within frames more than a quarter of a bit early or late (is BIT right?): 1" ∷ []
+unfolding sample_offset edges_amid_bits uart_annotations frames falls begun_frame value_from digits
+late_uart = refl
+
+fitting_uart : frame_edges_remark (uart_setup 7 1 8 parities.None 1) 60 late_run ≡ []
+unfolding sample_offset edges_amid_bits uart_annotations frames falls begun_frame value_from digits
+fitting_uart = refl
 
 -- a chip that is selected at tick 0, one that is not selected before tick 1, and one without a CS
 selected_spi : (setup : SpiSetup) → remarks (alone 20 (from 0 Zero ∷ [])) (commands.Spi 0 None None (Some 0) setup)
-    ≡ codes "spi: CS is 0 at tick 0: words are counted from there, and until CS is 1 they may be wrong" ∷ []
+    ≡ codes "spi: CS is 0 at tick 0: words are counted from there, and until CS is 1 they may be wrong"
+    ∷ codes "spi: CS is 0 at the end: the last word or transfer may go on past it" ∷ []
 unfolding remarks runs_begun value_from digits
 selected_spi setup = refl
 
 later_spi : (setup : SpiSetup)
-    → remarks (alone 20 (from 0 One ∷ from 1 Zero ∷ [])) (commands.Spi 0 None None (Some 0) setup) ≡ []
+    → remarks (alone 20 (from 0 One ∷ from 1 Zero ∷ [])) (commands.Spi 0 None None (Some 0) setup)
+    ≡ codes "spi: CS is 0 at the end: the last word or transfer may go on past it" ∷ []
 unfolding remarks runs_begun value_from digits
 later_spi setup = refl
 
@@ -165,7 +237,8 @@ rough_i2c : remarks (capture 20 (wire (codes "scl") rough ∷ wire (codes "sda")
     ≡ codes "i2c: SCL is x at 0-1: edges and bits there are lost"
     ∷ codes "i2c: SDA is x at 2, 4, 6, 8, 11-13, and 1 more: edges and bits there are lost"
     ∷ codes "i2c: bits before the first start or stop, which are not decoded: 3" ∷ []
-unfolding remarks runs_begun value_from bus_events bits_until bits_after_last_byte digits
+unfolding remarks runs_begun value_from bus_events bits_until bits_after_last_byte bits_after_stops digits
+    doubtful_acknowledges ends_in_transfer joint_edges
 rough_i2c = refl
 
 -- a bit before a stop, and one after it
@@ -173,7 +246,8 @@ stopped_i2c : remarks (capture 20 (wire (codes "scl") (from 0 Zero ∷ from 5 On
     ∷ wire (codes "sda") (from 0 Zero ∷ from 6 One ∷ []) ∷ [])) (commands.I2c 0 1)
     ≡ codes "i2c: bits before the first start or stop, which are not decoded: 1"
     ∷ codes "i2c: bits after the last byte, which are not decoded: 1" ∷ []
-unfolding remarks runs_begun value_from bus_events bits_until bits_after_last_byte digits
+unfolding remarks runs_begun value_from bus_events bits_until bits_after_last_byte bits_after_stops digits
+    doubtful_acknowledges ends_in_transfer joint_edges
 stopped_i2c = refl
 
 -- ten bits after a start: a byte with its acknowledge, and one more
@@ -181,6 +255,18 @@ started_i2c : remarks (capture 30 (wire (codes "scl") (from 0 One ∷ from 3 Zer
     ∷ from 7 Zero ∷ from 8 One ∷ from 9 Zero ∷ from 10 One ∷ from 11 Zero ∷ from 12 One ∷ from 13 Zero ∷ from 14 One
     ∷ from 15 Zero ∷ from 16 One ∷ from 17 Zero ∷ from 18 One ∷ from 19 Zero ∷ from 20 One ∷ from 21 Zero ∷ from 22 One
     ∷ []) ∷ wire (codes "sda") (from 0 One ∷ from 2 Zero ∷ []) ∷ [])) (commands.I2c 0 1)
-    ≡ codes "i2c: bits after the last byte, which are not decoded: 1" ∷ []
-unfolding remarks runs_begun value_from bus_events bits_until bits_after_last_byte digits
+    ≡ codes "i2c: bits after the last byte, which are not decoded: 1"
+    ∷ codes "i2c: the last transfer has no stop" ∷ []
+unfolding remarks runs_begun value_from bus_events bits_until bits_after_last_byte bits_after_stops digits
+    doubtful_acknowledges ends_in_transfer joint_edges
 started_i2c = refl
+
+-- both lines fall at 3, after a stop, so that the start is lost
+lost_start_i2c : remarks (capture 20 (wire (codes "scl") (from 0 One ∷ from 3 Zero ∷ from 4 One ∷ from 5 Zero
+    ∷ from 6 One ∷ []) ∷ wire (codes "sda") (from 0 Zero ∷ from 1 One ∷ from 3 Zero ∷ from 7 One ∷ []) ∷ []))
+    (commands.I2c 0 1)
+    ≡ codes "i2c: bits after a stop and before the next start or stop, which are not decoded: 2"
+    ∷ codes "i2c: ticks at which SCL and SDA change, so that a start or stop may be lost, or a bit be wrong: 1" ∷ []
+unfolding remarks runs_begun value_from bus_events bits_until bits_after_last_byte bits_after_stops digits
+    doubtful_acknowledges ends_in_transfer joint_edges
+lost_start_i2c = refl

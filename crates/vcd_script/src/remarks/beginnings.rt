@@ -1,12 +1,11 @@
-//! The remarks on where frames, words and transfers begin (nowhere, or perhaps before tick 0), and
-//! on bits of a bus before and after what is decoded.
+//! The remarks on where frames and words begin (nowhere, or perhaps before tick 0), and on words
+//! that may go on past the end.
 
 ghost use Rattle.std.specs.Prelude.{◌≡◌, ◌+◌, ◌-◌, ◌==◌, ◌&&◌, not, nat_le, if◌then◌else◌, [], ◌∷◌};
 ghost use Rattle.std.specs.Prelude.{◌++◌, map, OnOk, IfSome};
 ghost use Rattle.vcd_core.specs.declared.bit.Bit.TheVariants.{X};
 ghost use Rattle.vcd_core.specs.CaptureContents.{contents};
 ghost use Rattle.vcd_core.specs.Contents.{signal_at};
-ghost use Rattle.vcd_core.specs.Sound.{IsSound};
 ghost use Rattle.vcd_core.specs.Value.{letter_at};
 ghost use Rattle.vcd_decode.specs.Lines as lines_spec;
 ghost use Rattle.vcd_edit.specs.Effect.{signal_bit};
@@ -15,12 +14,12 @@ ghost use Rattle.vcd_script.specs.Remarks as spec;
 ghost use Rattle.vcd_script.specs.Remarks.{remarks_text, frame_ticks, runs_begun};
 ghost use Rattle.vcd_script.specs.Remarks.{changes_from_zero};
 
-use crate::remarks::appending::{append_count_remark, append_remark_head};
+use crate::remarks::appending::append_remark_head;
 use crate::remarks::runs::{changes_at, letter_of, tick_before};
+use crate::replies::MemoryResult;
 use crate::replies::appending::append_bytes;
-use crate::replies::{MemoryResult, scalar_wave};
 use vcd_core::{Bit, Capture, Change};
-use vcd_decode::{Uart, i2c_bits_after_last_byte, i2c_bits_before_condition};
+use vcd_decode::Uart;
 
 // ---- frames
 
@@ -105,7 +104,7 @@ fn is_idle_run(first: &Change, last: u64, ticks: u64) -> bool
 }
 
 /// Whether a line falls from 1 to 0 at one of its changes.
-fn has_fall(changes: &[Change]) -> bool
+pub fn has_fall(changes: &[Change]) -> bool
     ensures { result ≡ spec.has_fall X (map (λ c. letter_at c.value 0) changes.now) }
 {
     let mut before = Bit::X;
@@ -140,7 +139,7 @@ pub fn append_selected_remark(
         (spec.selected_remark (contents capture.now) cs)) }
 {
     match cs {
-        Some(signal) => append_cs_remark(text, number, letter_at_zero(capture, signal)),
+        Some(signal) => append_cs_remark(text, number, letter_at_tick(capture, signal, 0)),
         None => append_without_cs_remark(text, number),
     }
 }
@@ -174,65 +173,48 @@ fn append_without_cs_remark(text: &mut Vec<u8>, number: u64) -> MemoryResult<()>
     Ok(())
 }
 
-/// The letter at tick 0 of a signal of one bit.
-fn letter_at_zero(capture: &Capture, signal: usize) -> Bit
-    requires { IsScalarAt (contents capture.now) signal }
-    ensures { result ≡ signal_bit (contents capture.now) signal 0 0 }
+/// Appends the remark on a CS that is 0 at the end.
+pub fn append_unfinished_remark(
+    text: &mut Vec<u8>,
+    capture: &Capture,
+    number: u64,
+    cs: Option<usize>,
+) -> MemoryResult<()>
+    requires { IfSome cs (IsScalarAt (contents capture.now)) }
+    ensures { OnOk result (text.new.items ≡ text.old.items ++ remarks_text number
+        (spec.unfinished_remark (contents capture.now) cs)) }
 {
-    let value = capture.signals()[signal].wave.at(0);
+    match cs {
+        Some(signal) => {
+            let selected = letter_at_tick(capture, signal, capture.end()) == Bit::Zero;
+            append_last_cs_remark(text, number, selected)
+        }
+        None => Ok(()),
+    }
+}
+
+/// Appends the remark on a CS that is 0 at the end, if the chip is `selected` there.
+fn append_last_cs_remark(text: &mut Vec<u8>, number: u64, selected: bool) -> MemoryResult<()>
+    ensures { OnOk result (text.new.items ≡ text.old.items ++ remarks_text number
+        (if selected then spec.unfinished_text ∷ [] else [])) }
+{
+    if !selected {
+        return Ok(());
+    }
+    append_remark_head(text, number)?;
+    append_bytes(
+        text,
+        b"spi: CS is 0 at the end: the last word or transfer may go on past it\n",
+    )
+}
+
+/// The letter at a tick of a signal of one bit.
+fn letter_at_tick(capture: &Capture, signal: usize, tick: u64) -> Bit
+    requires { IsScalarAt (contents capture.now) signal }
+    ensures { result ≡ signal_bit (contents capture.now) signal 0 tick }
+{
+    let value = capture.signals()[signal].wave.at(tick);
     // its clause bounds the width
     let _width = value.width();
     value.bit(0)
-}
-
-// ---- transfers
-
-/// Appends the remark on the bits of a bus before its first condition, if there are any.
-pub fn append_early_bits_remark(
-    text: &mut Vec<u8>,
-    capture: &Capture,
-    number: u64,
-    scl: usize,
-    sda: usize,
-) -> MemoryResult<()>
-    requires sound { IsSound (contents capture.now) }
-    requires scl { IsScalarAt (contents capture.now) scl }
-    requires sda { IsScalarAt (contents capture.now) sda }
-    ensures { OnOk result (text.new.items ≡ text.old.items ++ remarks_text number
-        (spec.early_bits_remark (contents capture.now) scl sda)) }
-{
-    let scl = scalar_wave(capture, scl);
-    let sda = scalar_wave(capture, sda);
-    let count = i2c_bits_before_condition(scl, sda, capture.end());
-    append_count_remark(
-        text,
-        number,
-        b"i2c: bits before the first start or stop, which are not decoded: ",
-        count,
-    )
-}
-
-/// Appends the remark on the bits of a bus after its last byte, if there are any.
-pub fn append_last_bits_remark(
-    text: &mut Vec<u8>,
-    capture: &Capture,
-    number: u64,
-    scl: usize,
-    sda: usize,
-) -> MemoryResult<()>
-    requires sound { IsSound (contents capture.now) }
-    requires scl { IsScalarAt (contents capture.now) scl }
-    requires sda { IsScalarAt (contents capture.now) sda }
-    ensures { OnOk result (text.new.items ≡ text.old.items ++ remarks_text number
-        (spec.last_bits_remark (contents capture.now) scl sda)) }
-{
-    let scl = scalar_wave(capture, scl);
-    let sda = scalar_wave(capture, sda);
-    let count = i2c_bits_after_last_byte(scl, sda, capture.end());
-    append_count_remark(
-        text,
-        number,
-        b"i2c: bits after the last byte, which are not decoded: ",
-        count,
-    )
 }

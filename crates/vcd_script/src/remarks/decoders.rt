@@ -4,20 +4,25 @@ ghost use Rattle.std.specs.Prelude.{◌≡◌, ◌++◌, false, true, codes, OnO
 ghost use Rattle.vcd_core.specs.CaptureContents.{contents};
 ghost use Rattle.vcd_core.specs.Contents.{signal_at};
 ghost use Rattle.vcd_core.specs.Sound.{IsSound};
+ghost use Rattle.vcd_edit.specs.Effect.{signal_bit};
 ghost use Rattle.vcd_script.specs.CommandSignals.{IsScalarAt};
 ghost use Rattle.vcd_script.specs.Remarks as spec;
 ghost use Rattle.vcd_script.specs.Remarks.{remarks_text, frame_ticks, line_remark};
-ghost use Rattle.vcd_script.specs.Remarks.{optional_line_remark};
+ghost use Rattle.vcd_script.specs.Remarks.{optional_line_remark, samples_remarks};
+ghost use Rattle.vcd_script.specs.SpiRemarks.{unselected_remark};
 
 use crate::remarks::beginnings::{
-    append_early_bits_remark, append_fall_remark, append_idle_remark, append_last_bits_remark,
-    append_selected_remark,
+    append_fall_remark, append_idle_remark, append_selected_remark, append_unfinished_remark,
 };
+use crate::remarks::bus::append_bus_remarks;
+use crate::remarks::frame_edges::append_frame_edges_remark;
 use crate::remarks::places::{DecoderLine, append_lost_remark};
+use crate::remarks::run_lengths::{append_long_runs_remark, append_short_runs_remark, spikes_of};
 use crate::remarks::runs::changes_at;
+use crate::remarks::samples::{append_samples_remarks, append_unselected_remark, samples_of};
 use crate::replies::MemoryResult;
 use vcd_core::Capture;
-use vcd_decode::Uart;
+use vcd_decode::{Spi, Uart};
 
 /// Appends the remarks on `uart`.
 pub fn append_uart_remarks(
@@ -27,16 +32,26 @@ pub fn append_uart_remarks(
     signal: usize,
     setup: &Uart,
 ) -> MemoryResult<()>
-    requires { IsScalarAt (contents capture.now) signal }
+    requires sound { IsSound (contents capture.now) }
+    requires one_bit_signal { IsScalarAt (contents capture.now) signal }
     ensures { OnOk result (text.new.items ≡ text.old.items ++ remarks_text number
         (line_remark (contents capture.now) false (codes "uart: the line") signal
         ++ spec.fall_remark (signal_at (contents capture.now) signal).changes
         ++ spec.idle_remark (frame_ticks setup.now) (contents capture.now).end
+        (signal_at (contents capture.now) signal)
+        ++ spec.short_runs_remark setup.now (contents capture.now).end
+        (signal_at (contents capture.now) signal)
+        ++ spec.long_runs_remark setup.now (contents capture.now).end
+        (signal_at (contents capture.now) signal)
+        ++ spec.frame_edges_remark setup.now (contents capture.now).end
         (signal_at (contents capture.now) signal))) }
 {
     append_line_remark(text, capture, number, b"uart: the line", signal)?;
     append_fall_remark(text, number, changes_at(capture, signal))?;
     append_idle_remark(text, capture, number, signal, setup)?;
+    append_short_runs_remark(text, capture, number, signal, setup)?;
+    append_long_runs_remark(text, capture, number, signal, setup)?;
+    append_frame_edges_remark(text, capture, number, signal, setup)?;
     Ok(())
 }
 
@@ -49,23 +64,59 @@ pub fn append_spi_remarks(
     mosi: Option<usize>,
     miso: Option<usize>,
     cs: Option<usize>,
+    setup: &Spi,
 ) -> MemoryResult<()>
+    requires sound { IsSound (contents capture.now) }
     requires clk { IsScalarAt (contents capture.now) clk }
     requires mosi { IfSome mosi (IsScalarAt (contents capture.now)) }
     requires miso { IfSome miso (IsScalarAt (contents capture.now)) }
     requires cs { IfSome cs (IsScalarAt (contents capture.now)) }
     ensures { OnOk result (text.new.items ≡ text.old.items ++ remarks_text number
         (line_remark (contents capture.now) false (codes "spi: CLK") clk
-        ++ optional_line_remark (contents capture.now) (codes "spi: MOSI") mosi
-        ++ optional_line_remark (contents capture.now) (codes "spi: MISO") miso
+        ++ samples_remarks (contents capture.now) setup.now clk cs (codes "MOSI") mosi
+        ++ samples_remarks (contents capture.now) setup.now clk cs (codes "MISO") miso
         ++ optional_line_remark (contents capture.now) (codes "spi: CS") cs
-        ++ spec.selected_remark (contents capture.now) cs)) }
+        ++ spec.selected_remark (contents capture.now) cs
+        ++ unselected_remark (contents capture.now) cs
+        ++ spec.unfinished_remark (contents capture.now) cs)) }
 {
     append_line_remark(text, capture, number, b"spi: CLK", clk)?;
-    append_optional_remark(text, capture, number, b"spi: MOSI", mosi)?;
-    append_optional_remark(text, capture, number, b"spi: MISO", miso)?;
+    append_samples_remarks(
+        text,
+        number,
+        b"MOSI",
+        samples_of(capture, clk, mosi, cs, setup),
+        spikes_of(capture, clk, mosi),
+    )?;
+    append_samples_remarks(
+        text,
+        number,
+        b"MISO",
+        samples_of(capture, clk, miso, cs, setup),
+        spikes_of(capture, clk, miso),
+    )?;
+    append_cs_remarks(text, capture, number, cs)?;
+    Ok(())
+}
+
+/// Appends the remarks on the CS of `spi`.
+fn append_cs_remarks(
+    text: &mut Vec<u8>,
+    capture: &Capture,
+    number: u64,
+    cs: Option<usize>,
+) -> MemoryResult<()>
+    requires { IfSome cs (IsScalarAt (contents capture.now)) }
+    ensures { OnOk result (text.new.items ≡ text.old.items ++ remarks_text number
+        (optional_line_remark (contents capture.now) (codes "spi: CS") cs
+        ++ spec.selected_remark (contents capture.now) cs
+        ++ unselected_remark (contents capture.now) cs
+        ++ spec.unfinished_remark (contents capture.now) cs)) }
+{
     append_optional_remark(text, capture, number, b"spi: CS", cs)?;
     append_selected_remark(text, capture, number, cs)?;
+    append_unselected_remark(text, capture, number, cs)?;
+    append_unfinished_remark(text, capture, number, cs)?;
     Ok(())
 }
 
@@ -83,13 +134,12 @@ pub fn append_i2c_remarks(
     ensures { OnOk result (text.new.items ≡ text.old.items ++ remarks_text number
         (line_remark (contents capture.now) true (codes "i2c: SCL") scl
         ++ line_remark (contents capture.now) true (codes "i2c: SDA") sda
-        ++ spec.early_bits_remark (contents capture.now) scl sda
-        ++ spec.last_bits_remark (contents capture.now) scl sda)) }
+        ++ spec.bus_remarks (signal_bit (contents capture.now) scl 0)
+        (signal_bit (contents capture.now) sda 0) (contents capture.now).end)) }
 {
-    append_bus_remark(text, capture, number, b"i2c: SCL", scl)?;
-    append_bus_remark(text, capture, number, b"i2c: SDA", sda)?;
-    append_early_bits_remark(text, capture, number, scl, sda)?;
-    append_last_bits_remark(text, capture, number, scl, sda)?;
+    append_bus_line_remark(text, capture, number, b"i2c: SCL", scl)?;
+    append_bus_line_remark(text, capture, number, b"i2c: SDA", sda)?;
+    append_bus_remarks(text, capture, number, scl, sda)?;
     Ok(())
 }
 
@@ -133,7 +183,7 @@ fn append_line_remark(
 }
 
 /// Appends the remark on a line on which z is 1.
-fn append_bus_remark(
+fn append_bus_line_remark(
     text: &mut Vec<u8>,
     capture: &Capture,
     number: u64,

@@ -13,6 +13,9 @@ ghost use Rattle.vcd_script.specs.Remarks.{remarks_text};
 ghost use Rattle.vcd_script.specs.inside.remarks.Parts as inside;
 
 use crate::remarks::appending::{append_count_remark, append_remark_head};
+use crate::remarks::cuts::append_cut_remark;
+use crate::remarks::derivations::append_rule_remark;
+use crate::remarks::inversions::append_invert_remark;
 use crate::remarks::pulses::{Spans, delays_in, longest_stretch_in, pulses_in, short_runs_in};
 use crate::remarks::runs::changes_at;
 use crate::replies::MemoryResult;
@@ -52,12 +55,10 @@ fn append_accepted(
             append_deglitch_remarks(text, capture, number, signal, ticks)
         }
         Edit::Shift { signal, by } => append_shift_remarks(text, capture, number, signal, by),
-        Edit::Cut { from, .. } => append_cut_remark(text, number, from),
-        Edit::Rename { .. }
-        | Edit::Remove { .. }
-        | Edit::Invert { .. }
-        | Edit::Force { .. }
-        | Edit::Derive { .. } => Ok(()),
+        Edit::Invert { signal } => append_invert_remark(text, capture, number, signal),
+        Edit::Cut { from, to } => append_cut_remark(text, number, from, to),
+        Edit::Derive { rule, .. } => append_rule_remark(text, capture, number, rule),
+        Edit::Rename { .. } | Edit::Remove { .. } | Edit::Force { .. } => Ok(()),
     }
 }
 
@@ -181,9 +182,9 @@ fn append_delays(text: &mut Vec<u8>, delays: Spans) -> MemoryResult<()>
 fn append_delay(text: &mut Vec<u8>, delay: u64) -> MemoryResult<()>
     ensures { OnOk result (text.new.items ≡ text.old.items ++ spec.delay_text delay) }
 {
-    text.extend_from_slice(b" (late by at most ")?;
+    text.extend_from_slice(b" (ticks late at most: ")?;
     append_decimal(text, delay)?;
-    append_bytes(text, b" ticks)")
+    append_bytes(text, b")")
 }
 
 /// Appends the remarks on a `shift`.
@@ -203,13 +204,30 @@ fn append_shift_remarks(
     append_count_remark(text, number, b"shift: changes moved past the end: ", late)?;
     let early = count_before_zero(changes, by);
     append_count_remark(text, number, b"shift: edges moved before tick 0: ", early)?;
+    append_filled_remark(text, number, end, by)?;
+    Ok(())
+}
+
+/// Appends the remark on the ticks at one end that a shift by so many ticks fills.
+fn append_filled_remark(text: &mut Vec<u8>, number: u64, end: u64, by: i64) -> MemoryResult<()>
+    ensures { OnOk result (text.new.items ≡ text.old.items ++ remarks_text number
+        (spec.count_remark (spec.filled_text by) (spec.ticks_filled end by))) }
+{
+    let filled = ticks_filled(end, by);
+    if by < 0 {
+        return append_count_remark(
+            text,
+            number,
+            b"shift: ticks at the end filled with the last value: ",
+            filled,
+        );
+    }
     append_count_remark(
         text,
         number,
-        b"shift: ticks at the end filled with the last value: ",
-        ticks_filled(end, by),
-    )?;
-    Ok(())
+        b"shift: ticks at the beginning filled with x: ",
+        filled,
+    )
 }
 
 /// How many changes are past the end once they are `by` ticks later.
@@ -232,13 +250,10 @@ fn count_before_zero(changes: &[Change], by: i64) -> u64
         .count() as u64
 }
 
-/// How many ticks at the end have the last value only since it is `by` ticks later.
+/// How many ticks at one end are filled in a signal that is `by` ticks later.
 fn ticks_filled(end: u64, by: i64) -> u64
     ensures { result ≡ spec.ticks_filled end by }
 {
-    if by >= 0 {
-        return 0;
-    }
     by.unsigned_abs().min(end.saturating_add(1))
 }
 
@@ -247,17 +262,4 @@ fn moved_tick(change: &Change, by: i64) -> i128
     ensures { result ≡ pos change.now.tick +ℤ by }
 {
     i128::from(change.tick) + i128::from(by)
-}
-
-/// Appends the remark on a `cut` from this tick on, unless that is tick 0.
-fn append_cut_remark(text: &mut Vec<u8>, number: u64, from: u64) -> MemoryResult<()>
-    ensures { OnOk result
-        (text.new.items ≡ text.old.items ++ remarks_text number (spec.cut_remarks from)) }
-{
-    append_count_remark(
-        text,
-        number,
-        b"cut: the capture is joined, so what is decoded from there on may be wrong: at tick ",
-        from,
-    )
 }

@@ -5,6 +5,7 @@ ghost use Rattle.std.specs.List.{flat_map};
 ghost use Rattle.std.specs.Option.{option_copied, option_map};
 ghost use Rattle.vcd_core.specs.BitEdges.{IsOneBit};
 ghost use Rattle.vcd_core.specs.CaptureContents.{contents};
+ghost use Rattle.vcd_core.specs.Contents.{signal_at};
 ghost use Rattle.vcd_core.specs.Sound.{IsSound};
 ghost use Rattle.vcd_core.specs.Wave.{AllUpTo};
 ghost use Rattle.vcd_decode.specs.WaveLines.{line_of};
@@ -95,12 +96,13 @@ pub fn scalar_wave(capture: &Capture, signal: usize) -> &Wave
     ensures one_bit { result.now.width ≡ 1 }
     ensures within { AllUpTo capture.now.end result.now.changes }
     ensures letters { line_of result.now ≡ signal_bit (contents capture.now) signal 0 }
+    ensures changes { result.now.changes ≡ (signal_at (contents capture.now) signal).changes }
 {
     &capture.signals()[signal].wave
 }
 
 /// The wave of a line that may be absent.
-fn wave_or_absent(capture: &Capture, line: Option<usize>) -> Option<&Wave>
+pub fn wave_or_absent(capture: &Capture, line: Option<usize>) -> Option<&Wave>
     requires sound { IsSound (contents capture.now) }
     requires one_bit_signal { IfSome line (IsScalarAt (contents capture.now)) }
     ensures one_bit { IsOneBit (option_copied result) }

@@ -1,12 +1,13 @@
 //! The remarks on the lines of a script, which are carried out one after another.
 
-ghost use Rattle.std.specs.Prelude.{◌≡◌, ◌<◌, ◌^◌, ℕ, false, true, Ok, length, OnOk, IfErr};
+ghost use Rattle.std.specs.Prelude.{◌≡◌, ◌<◌, ◌^◌, ◌++◌, ℕ, false, true, Ok, length, OnOk, IfErr};
 ghost use Rattle.std.specs.Io.KnownBytes.{Appends};
 ghost use Rattle.vcd_core.specs.CaptureContents.{contents};
 ghost use Rattle.vcd_core.specs.Sound.{IsSound};
 ghost use Rattle.vcd_core.specs.Devices.{device_end, HasPrefix};
 ghost use Rattle.vcd_journal.specs.Machine.{step_outcome};
 ghost use Rattle.vcd_script.specs.CommandSignals.{HasCommandSignals};
+ghost use Rattle.vcd_script.specs.NameRemarks.{name_remarks};
 ghost use Rattle.vcd_script.specs.Remarks.{remarks, remarks_text};
 ghost use Rattle.vcd_script.specs.RemarksOfRun.{line_remarks};
 ghost use Rattle.vcd_script.specs.Script.{script_lines};
@@ -92,18 +93,19 @@ fn remark_on_line<W: Sink>(
 {
     match parse_line(line, session.capture()) {
         Ok(command) => {
-            write_remarks(alloc, session.capture(), number, &command, writer)?;
+            write_remarks(alloc, session.capture(), number, line, &command, writer)?;
             carry_out(session, &command)
         }
         Err(_) => Ok(()),
     }
 }
 
-/// Writes the remarks on the command of the line of this number.
+/// Writes the remarks on the line of this number and its command.
 fn write_remarks<W: Sink>(
     alloc: Global,
     capture: &Capture,
     number: u64,
+    line: &[u8],
     command: &Command,
     writer: &mut W,
 ) -> Result<(), RemarkError>
@@ -111,14 +113,16 @@ fn write_remarks<W: Sink>(
     requires sound { IsSound (contents capture.now) }
     requires signals { HasCommandSignals (contents capture.now) command.now }
     ensures remarks { OnOk result (Appends (W.taken writer.old) (W.taken writer.new)
-        (remarks_text number (remarks (contents capture.now) command.now))) }
+        (remarks_text number (name_remarks (contents capture.now) line.now command.now
+        ++ remarks (contents capture.now) command.now))) }
     ensures not_failed { OnOk result (W.has_failed writer.new ≡ false) }
     ensures prefix { IfErr result (λ _. (count : ℕ)
         × HasPrefix (device_end W.taken W.has_failed writer.old writer.new) count
-        (remarks_text number (remarks (contents capture.now) command.now))) }
+        (remarks_text number (name_remarks (contents capture.now) line.now command.now
+        ++ remarks (contents capture.now) command.now))) }
     ensures failed { IfErr result (λ e. e ≡ errors.WriteFault → W.has_failed writer.new ≡ true) }
 {
-    let Ok(text) = remarks_on(alloc, capture, number, command) else {
+    let Ok(text) = remarks_on(alloc, capture, number, line, command) else {
         return Err(RemarkError::NoMemory);
     };
     match write_all(writer, text.as_slice()) {

@@ -1,4 +1,4 @@
-//! The signals whose changes a command needs.
+//! The signals that a command refers to, and those whose changes it needs.
 
 ghost use Rattle.std.specs.Prelude.{◌≡◌, ◌∷◌, [], Some, None};
 ghost use Rattle.std.specs.List.{filter_map};
@@ -6,6 +6,7 @@ ghost use Rattle.vcd_edit.specs.OtherWaves.{waves_read};
 ghost use Rattle.vcd_edit.specs.EditFaults.{operands};
 ghost use Rattle.vcd_edit.specs.Effect.{formula};
 ghost use Rattle.vcd_script.specs.HollowRun.{waves_of_command};
+ghost use Rattle.vcd_script.specs.NameRemarks.{signals_of_edit, signals_of_command};
 
 use crate::script::Command;
 use vcd_edit::{Edit, Rule};
@@ -33,6 +34,39 @@ pub fn waves_of_command(command: &Command) -> [Option<usize>; 4]
         } => [Some(*clk), *mosi, *miso, *cs],
         Command::I2c { scl, sda } => [Some(*scl), Some(*sda), None, None],
         Command::Nothing | Command::Step(_) | Command::List => [None; 4],
+    }
+}
+
+/// The positions of the signals that a command refers to.
+pub fn signals_of_command(command: &Command) -> [Option<usize>; 4]
+    ensures { filter_map (λ signal. signal) result ≡ signals_of_command command.now }
+{
+    match command {
+        Command::Step(Step::Edit(edit)) => signals_of_edit(edit),
+        Command::Nothing
+        | Command::Step(_)
+        | Command::List
+        | Command::Value { .. }
+        | Command::Changes { .. }
+        | Command::Uart { .. }
+        | Command::Spi { .. }
+        | Command::I2c { .. } => waves_of_command(command),
+    }
+}
+
+/// The positions of the signals that an edit refers to.
+fn signals_of_edit(edit: &Edit) -> Waves
+    ensures { filter_map (λ signal. signal) result ≡ signals_of_edit edit.now }
+{
+    match edit {
+        Edit::Rename { signal, .. } => one_wave(*signal),
+        Edit::Remove { signal } => one_wave(*signal),
+        Edit::Invert { .. }
+        | Edit::Shift { .. }
+        | Edit::Cut { .. }
+        | Edit::Deglitch { .. }
+        | Edit::Force { .. }
+        | Edit::Derive { .. } => waves_read(edit),
     }
 }
 

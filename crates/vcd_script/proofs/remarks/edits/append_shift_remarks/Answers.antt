@@ -6,22 +6,22 @@ use Rattle.std.proofs.lemmas.Int.{to_z-of_z}
 use Rattle.vcd_core.specs.declared.wave.Change.{Change}
 use Rattle.vcd_core.specs.CaptureContents.{contents}
 use Rattle.vcd_core.specs.Contents.{Contents, signal_at}
-use Rattle.vcd_script.specs.Remarks.{count_remark, is_moved_before_zero, shift_remarks, ticks_filled, remarks_text}
+use Rattle.vcd_script.specs.Remarks.{count_remark, is_moved_before_zero, shift_remarks, filled_text, ticks_filled}
+use Rattle.vcd_script.specs.Remarks.{remarks_text}
 use Rattle.vcd_script.proofs.remarks.RemarksInTurn.{in_turn}
 use Rattle.vcd_script.proofs.remarks.edits.append_shift_remarks.Goals as goal
 
 -- the counts of a signal of a capture
-counts_in_turn : (c : Contents) (number k end late early filled : ℕ) (by same_by : ℤ) (cs : List Change)
+counts_in_turn : (c : Contents) (number k end late early : ℕ) (by same_by : ℤ) (cs : List Change)
     (start one two three : List ℕ) → same_by ≡ by → end ≡ c.end → cs ≡ (signal_at c k).changes
     → late ≡ count_by (λ d. int_lt (pos end) (pos d.tick +ℤ same_by)) cs
-    → early ≡ count_by (is_moved_before_zero same_by) cs → filled ≡ ticks_filled end same_by
+    → early ≡ count_by (is_moved_before_zero same_by) cs
     → one ≡ start ++ remarks_text number (count_remark (codes "shift: changes moved past the end: ") late)
     → two ≡ one ++ remarks_text number (count_remark (codes "shift: edges moved before tick 0: ") early)
-    → three ≡ two ++ remarks_text number
-    (count_remark (codes "shift: ticks at the end filled with the last value: ") filled)
+    → three ≡ two ++ remarks_text number (count_remark (filled_text same_by) (ticks_filled end same_by))
     → three ≡ start ++ remarks_text number (shift_remarks c.end by (signal_at c k).changes)
-counts_in_turn c number k end late early filled by same_by cs start one two three bys ends same past before fills first
-    second third =
+counts_in_turn c number k end late early by same_by cs start one two three bys ends same past before first second
+    third =
     let lates : List (List ℕ) = count_remark (codes "shift: changes moved past the end: ")
     (count_by (λ d. int_lt (pos c.end) (pos d.tick +ℤ by)) (signal_at c k).changes) in
     let earlies : List (List ℕ) = count_remark (codes "shift: edges moved before tick 0: ")
@@ -32,17 +32,14 @@ counts_in_turn c number k end late early filled by same_by cs start one two thre
     (past ∙ (λ i. count_by (λ d. int_lt (pos (ends i)) (pos d.tick +ℤ bys i)) (same i))))
     (second ∙ ap (λ n. one ++ remarks_text number (count_remark (codes "shift: edges moved before tick 0: ") n))
     (before ∙ (λ i. count_by (is_moved_before_zero (bys i)) (same i)))))
-    (third ∙ ap (λ n. two ++ remarks_text number
-    (count_remark (codes "shift: ticks at the end filled with the last value: ") n))
-    (fills ∙ (λ i. ticks_filled (ends i) (bys i))))
+    (third ∙ (λ i. two ++ remarks_text number (count_remark (filled_text (bys i)) (ticks_filled (ends i) (bys i)))))
 
 pub returns : goal.returns
 returns c =
     counts_in_turn (contents c.args.capture.now) c.args.number c.args.signal c.end-end.result
-    c.count_past_end-late.result c.count_before_zero-early.result c.ticks_filled.result c.args.by _
+    c.count_past_end-late.result c.count_before_zero-early.result c.args.by _
     c.changes_at-changes.result.now c.args.text.now.items c.append_count_remark.new.text.items
-    c.append_count_remark-2.new.text.items c.append_count_remark-3.new.text.items
+    c.append_count_remark-2.new.text.items c.append_filled_remark.new.text.items
     (to_z-of_z w64 c.args.by c.ranges.by)
     c.end-end.ensures c.changes_at-changes.ensures c.count_past_end-late.ensures c.count_before_zero-early.ensures
-    c.ticks_filled.ensures
-    c.in_ok-append_count_remark.ensures c.in_ok-append_count_remark-2.ensures c.in_ok-append_count_remark-3.ensures
+    c.in_ok-append_count_remark.ensures c.in_ok-append_count_remark-2.ensures c.in_ok-append_filled_remark.ensures
