@@ -1,34 +1,44 @@
--- What there is to say of an output beyond the replies: of variables that share a code, which are
--- edited or removed alone, which are removed, and which events cuts leave out. The project's own.
-use Rattle.std.specs.Prelude.{ℕ, Bool, true, false, not, ◌-◌, ◌==◌, ◌&&◌, nat_le, List, []}
-use Rattle.std.specs.Prelude.{if◌then◌else◌}
-use Rattle.std.specs.Prelude.{◌∷◌, ◌++◌, map, take, length, is_some, bytes_eq, codes, All, IsTrue}
+-- What there is to say of an output beyond the replies: of variables that share a code, which
+-- differ or are removed alone, which are removed, and which events cuts leave out. The project's
+-- own.
+use Rattle.std.specs.Prelude.{◌≡◌, ℕ, Bool, true, false, not, ◌-◌, ◌==◌, ◌&&◌, List, []}
+use Rattle.std.specs.Prelude.{if◌then◌else◌, ◌⊎◌, Option, Some, None}
+use Rattle.std.specs.Prelude.{◌∷◌, ◌++◌, map, take, length, is_some, bytes_eq, codes, All}
 use Rattle.std.specs.List.{filter, list_any, join_by}
 use Rattle.vcd_core.specs.declared.capture.TheConstants.{SIGNAL_LIMIT}
-use Rattle.vcd_core.specs.Contents.{Contents}
-use Rattle.vcd_text.specs.Grammar.{VariableDeclaration, ParseState}
+use Rattle.vcd_core.specs.Contents.{Contents, SignalContents}
+use Rattle.vcd_text.specs.Grammar.{VariableDeclaration, kept_variables}
 use Rattle.vcd_text.specs.AsDeclared.{declared_name}
 use Rattle.vcd_text.specs.Pieces.{Piece, state_of_pieces}
 use Rattle.vcd_journal.specs.Cuts.{cuts}
 use Rattle.vcd_script.specs.HollowRun.{last_edits}
+use Rattle.vcd_script.specs.NameRemarks.{shown_byte}
 use Rattle.vcd_script.specs.Remarks.{more_text}
 use Rattle.vcd_amend.specs.Amendment.{Amendment, Fate, stays, is_removed, is_changed, fate_of}
-use Rattle.vcd_amend.specs.Amendment.{flat_map_along, amended_variables, first_with_code, is_used}
-use Rattle.vcd_amend.specs.EditedText.{amendment_of_run, PiecesMean}
+use Rattle.vcd_amend.specs.Amendment.{flat_map_along, amended_variables, first_with_code}
+use Rattle.vcd_amend.specs.Amendment.{variable_left}
+use Rattle.vcd_amend.specs.EditedText.{amendment_of_run, remaining_of_run, PiecesMean}
 
 -- ---- variables of one code
 
--- whether a variable gets another code by its fate. It does only if an unchanged variable, or one
--- that is edited in another way, has its own (`GivenCodes`)
-abbrev pub has_other_code : Fate → VariableDeclaration → Bool
-has_other_code (is_changed words code) d = not (bytes_eq code d.code)
-has_other_code stays d = false
-has_other_code is_removed d = false
+-- the codes that variables with this code in the file have in the amended file
+abbrev pub codes_left : Amendment → List VariableDeclaration → (code : List ℕ) → List (List ℕ)
+codes_left a ds code = map (λ v. v.code) (flat_map_along (λ before d.
+    if bytes_eq code d.code then variable_left (fate_of a before d) d else []) [] ds)
 
--- the variables that are edited, but not as another variable of their code
-abbrev pub edited_apart : Amendment → List VariableDeclaration → List VariableDeclaration
-edited_apart a ds =
-    flat_map_along (λ before d. if has_other_code (fate_of a before d) d then d ∷ [] else []) [] ds
+-- whether one of these codes is another than this one
+abbrev pub has_other_than : (code : List ℕ) → (codes : List (List ℕ)) → Bool
+has_other_than code codes = list_any (λ k. not (bytes_eq k code)) codes
+
+-- whether a variable of this fate is left, with another code than one of these
+abbrev pub is_left_apart : (codes : List (List ℕ)) → Fate → VariableDeclaration → Bool
+is_left_apart codes fate d = list_any (λ v. has_other_than v.code codes) (variable_left fate d)
+
+-- the variables that have another code in the amended file than another variable has there whose
+-- code in the file is theirs. They are as the file declares them, so with their names there
+abbrev pub left_apart : Amendment → List VariableDeclaration → List VariableDeclaration
+left_apart a ds = flat_map_along (λ before d.
+    if is_left_apart (codes_left a ds d.code) (fate_of a before d) d then d ∷ [] else []) [] ds
 
 -- whether a variable of this fate is removed, while one of these has its code
 abbrev pub is_removed_apart : (left : List VariableDeclaration) → Fate → VariableDeclaration → Bool
@@ -70,11 +80,6 @@ events_left_out ds =
 
 -- ---- texts
 
--- a byte of a name as a remark shows it: `?` (63), unless it is a visible ASCII character or a
--- space (32 to 126)
-abbrev pub shown_byte : ℕ → ℕ
-shown_byte b = if nat_le 32 b && nat_le b 126 then b else 63
-
 -- at most five names, and how many more there are
 abbrev pub names_text : List (List ℕ) → List ℕ
 names_text names = join_by (map shown_byte) (codes ", ") (take 5 names)
@@ -87,10 +92,9 @@ names_remark head [] = []
 names_remark head names =
     codes "output: " ++ head ++ codes ": " ++ names_text names ++ 10 ∷ []
 
--- the remark on variables that are edited, but not as another of their code
-abbrev pub edited_remark : (names : List (List ℕ)) → List ℕ
-edited_remark names =
-    names_remark (codes "edited, unlike another variable of the same code") names
+-- the remark on variables of one code that have different ones in the amended file
+abbrev pub apart_remark : (names : List (List ℕ)) → List ℕ
+apart_remark names = names_remark (codes "variables of one code that differ from now on") names
 
 -- the remark on variables that are removed, while another has their code
 abbrev pub removed_remark : (names : List (List ℕ)) → List ℕ
@@ -100,7 +104,8 @@ removed_remark names =
 -- the remark on variables that are removed: what is no declaration and no change of theirs stays
 abbrev pub traces_remark : (names : List (List ℕ)) → List ℕ
 traces_remark names = names_remark
-    (codes "removed, but scopes, comments, marks, time stamps and namesakes may tell of them") names
+    (codes "removed, but their time stamps stay, and scopes, comments, marks, namesakes and copies"
+    ++ codes " under other codes may tell of them") names
 
 -- the remark on events that cuts leave out
 abbrev pub events_remark : (names : List (List ℕ)) → List ℕ
@@ -111,7 +116,7 @@ events_remark names =
 
 -- the remarks on an amended file with these variables, of which ticks are cut out, or not
 abbrev pub output_remarks : Amendment → List VariableDeclaration → (is_cut : Bool) → List ℕ
-output_remarks a ds is_cut = edited_remark (map declared_name (edited_apart a ds))
+output_remarks a ds is_cut = apart_remark (map declared_name (left_apart a ds))
     ++ removed_remark (map declared_name (removed_apart a ds))
     ++ traces_remark (map declared_name (removed_variables a ds))
     ++ (if is_cut then events_remark (map declared_name (events_left_out ds)) else [])
@@ -126,12 +131,24 @@ output_remarks_of_run c skipped depth lines pieces =
 
 -- ---- the law
 
--- each variable that is edited apart by a run, and so has another code, leaves its code to a
--- variable of the amended file
-abbrev pub EditedApartLeaveTheirCodes : Type 0
-EditedApartLeaveTheirCodes =
+-- the kept variables of this code of which signals are left, with these
+abbrev pub left_of_code : (code : List ℕ) → (kept : List VariableDeclaration)
+    → (remaining : List (Option SignalContents)) → List (VariableDeclaration × SignalContents)
+left_of_code code (d ∷ ds) (Some n ∷ ns) =
+    if bytes_eq code d.code then (d, n) ∷ left_of_code code ds ns else left_of_code code ds ns
+left_of_code code (d ∷ ds) (None ∷ ns) = left_of_code code ds ns
+left_of_code code ds ns = []
+
+-- no variable of a code is named as one that differs from now on if those that a run leaves have
+-- the same changes in its last capture, and else all that it leaves are named
+abbrev pub NamedJustIfChangesDiffer : Type 0
+NamedJustIfChangesDiffer =
     (file : List ℕ) (pieces : List Piece) (tail : List ℕ) (c : Contents) (skipped depth : ℕ)
-    (lines : List (List ℕ)) → PiecesMean file pieces tail c skipped →
-    let a : Amendment = amendment_of_run c skipped depth lines pieces in
-    let s : ParseState = state_of_pieces SIGNAL_LIMIT pieces in
-    All (λ d. IsTrue (is_used a s d.code)) (edited_apart a s.declared)
+    (lines : List (List ℕ)) → PiecesMean file pieces tail c skipped → (code : List ℕ) →
+    let ds : List VariableDeclaration = (state_of_pieces SIGNAL_LIMIT pieces).declared in
+    let named : List VariableDeclaration = filter (λ d. bytes_eq code d.code)
+    (left_apart (amendment_of_run c skipped depth lines pieces) ds) in
+    let left : List (VariableDeclaration × SignalContents) =
+    left_of_code code (kept_variables ds) (remaining_of_run c skipped depth lines) in
+    let same : Type 0 = All (λ p. All (λ q. p.1.changes ≡ q.1.changes) left) left in
+    ((named ≡ []) × same) ⊎ ((named ≡ map (λ p. p.0) left) × (same → ⊥))

@@ -19,7 +19,7 @@ ghost use Rattle.vcd_amend.specs.EditedText.{CutsInForceLeaveTicks, RetimedCaptu
 ghost use Rattle.vcd_amend.specs.EditedText.{AcceptedFileHasPieces, EditedTextMeansLastCapture};
 ghost use Rattle.vcd_amend.specs.EditedText.{NoCutLeavesPieces};
 ghost use Rattle.vcd_amend.specs.EditsInForce.{LinesInForceAskForEdits};
-ghost use Rattle.vcd_amend.specs.OutputRemarks.{EditedApartLeaveTheirCodes};
+ghost use Rattle.vcd_amend.specs.OutputRemarks.{NamedJustIfChangesDiffer};
 
 /// If an amendment fits an accepted file, the amended file is accepted, and means the amended
 /// capture. As many variables are skipped as before, and they stand with their changes.
@@ -104,8 +104,9 @@ pub fn lines_in_force_ask_for_edits()
     ensures { LinesInForceAskForEdits }
 {}
 
-/// A variable of which a remark says that it is not edited as another one of its code does share
-/// its code: a variable of the amended file has it, and it has another one itself.
-pub fn edited_variables_leave_their_codes()
-    ensures { EditedApartLeaveTheirCodes }
+/// Variables of one code are named as ones that differ from now on just if their changes in the
+/// last capture of the run do: none is named if all that are left have the same changes, and else
+/// all that are left are named.
+pub fn named_variables_differ()
+    ensures { NamedJustIfChangesDiffer }
 {}

@@ -49,14 +49,12 @@ pub use dry_running::{DryRun, NoMemoryAt, dry_run};
 pub use hearing::{HearError, read_heard};
 pub use laws::{
     amended_file_is_read_again, copy_is_amended_text, cuts_in_force_retime_files,
-    edited_file_is_read_again, edited_variables_leave_their_codes, fresh_codes_are_fresh,
-    lines_in_force_ask_for_edits, other_capture_is_read_again, retimed_copy_is_copy_of_retimed,
+    edited_file_is_read_again, fresh_codes_are_fresh, lines_in_force_ask_for_edits,
+    named_variables_differ, other_capture_is_read_again, retimed_copy_is_copy_of_retimed,
     retimed_file_is_meant, signals_remain, untouched_items_stand,
 };
 pub use new_names::takes_skipped_name;
 pub use on_bytes::{AmendRefusal, amend_on_bytes};
 pub use outlining::{Outline, read_outline};
-pub use remarks::{
-    append_names_remark, append_removed_remark, append_traces_remark, output_remarks,
-};
+pub use remarks::{append_names_remark, append_removed_remark, output_remarks};
 pub use running::{AmendRunError, Passes, amend_run};

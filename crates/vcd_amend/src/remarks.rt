@@ -8,6 +8,7 @@ ghost use Rattle.vcd_amend.specs.AmendmentContents.{amendment_contents};
 ghost use Rattle.vcd_amend.specs.DeclaredVariables.{declarations_of};
 ghost use Rattle.vcd_amend.specs.OutputRemarks as spec;
 
+mod codes_left;
 mod events;
 mod fated_variables;
 mod names;
@@ -20,16 +21,16 @@ use events::event_names;
 use fated_variables::fated_variables;
 pub use names::append_names_remark;
 use std::alloc::Global;
-use variables::{edited_names, removed_apart_names, removed_names, used_codes};
+use variables::{left_apart_names, removed_apart_names, removed_names, used_codes};
 use vcd_core::{NoMemory, Word};
 
 /// The remarks on the output of a run, by the variables that the file declares, what is done to it,
-/// and the cuts in force: which variables are edited, unlike another variable of the same code,
-/// which are removed, but another variable of the same code stays, which are removed at all, and
-/// which events the cuts leave out. Each is a line with at most five names.
+/// and the cuts in force: which variables of one code differ from now on, which are removed, but
+/// another variable of the same code stays, which are removed at all, and which events the cuts
+/// leave out. Each is a line with at most five names.
 ///
-/// It goes over the variables once for each kind of remark, and looks up a code for each. It holds
-/// a target for each code, a fate for each variable, and the names of a remark.
+/// It goes over the variables at most twice for each kind of remark, and looks up a code for each.
+/// It holds a target for each code, a fate for each variable, and the names of the remarks.
 pub fn output_remarks(
     alloc: Global,
     declared: &[DeclaredVariable],
@@ -54,8 +55,8 @@ fn append_code_remarks(
     amendment: &Amendment,
 ) -> Result<(), NoMemory>
     ensures { OnOk result (text.new.items ≡ text.old.items
-        ++ spec.edited_remark (map declared_name
-        (spec.edited_apart (amendment_contents amendment.now) (declarations_of declared.now)))
+        ++ spec.apart_remark (map declared_name
+        (spec.left_apart (amendment_contents amendment.now) (declarations_of declared.now)))
         ++ spec.removed_remark (map declared_name
         (spec.removed_apart (amendment_contents amendment.now) (declarations_of declared.now)))
         ++ spec.traces_remark (map declared_name
@@ -63,11 +64,11 @@ fn append_code_remarks(
         (declarations_of declared.now)))) }
 {
     let fated = fated_variables(alloc, declared, amendment)?;
+    let differing = left_apart_names(alloc, fated.as_slice())?;
     let used = used_codes(alloc, fated.as_slice(), amendment.added.as_slice())?;
-    let edited = edited_names(alloc, fated.as_slice())?;
     let apart = removed_apart_names(alloc, fated.as_slice(), &used)?;
     let removed = removed_names(alloc, fated.as_slice())?;
-    append_edited_remark(text, edited.as_slice())?;
+    append_apart_remark(text, differing.as_slice())?;
     append_removed_remark(text, apart.as_slice())?;
     append_traces_remark(text, removed.as_slice())
 }
@@ -94,15 +95,13 @@ fn append_cut_remark(
     )
 }
 
-/// Appends the remark on variables of these names, which are edited, but not as another variable
-/// of the same code.
-fn append_edited_remark(text: &mut Vec<u8>, names: &[Word]) -> Result<(), NoMemory>
-    ensures { OnOk result
-        (text.new.items ≡ text.old.items ++ spec.edited_remark names.now) }
+/// Appends the remark on variables of these names, which share codes, but differ from now on.
+fn append_apart_remark(text: &mut Vec<u8>, names: &[Word]) -> Result<(), NoMemory>
+    ensures { OnOk result (text.new.items ≡ text.old.items ++ spec.apart_remark names.now) }
 {
     append_names_remark(
         text,
-        b"edited, unlike another variable of the same code",
+        b"variables of one code that differ from now on",
         names,
     )
 }
@@ -120,15 +119,14 @@ pub fn append_removed_remark(text: &mut Vec<u8>, names: &[Word]) -> Result<(), N
     )
 }
 
-/// Appends the remark on variables of these names, which are removed: one line, or none if there is
-/// no name. It shows at most five names.
-pub fn append_traces_remark(text: &mut Vec<u8>, names: &[Word]) -> Result<(), NoMemory>
-    ensures { OnOk result
-        (text.new.items ≡ text.old.items ++ spec.traces_remark names.now) }
+/// Appends the remark on variables of these names, which are removed.
+fn append_traces_remark(text: &mut Vec<u8>, names: &[Word]) -> Result<(), NoMemory>
+    ensures { OnOk result (text.new.items ≡ text.old.items ++ spec.traces_remark names.now) }
 {
     append_names_remark(
         text,
-        b"removed, but scopes, comments, marks, time stamps and namesakes may tell of them",
+        b"removed, but their time stamps stay, and scopes, comments, marks, namesakes and copies \
+        under other codes may tell of them",
         names,
     )
 }

@@ -22,6 +22,7 @@ ghost use Rattle.vcd_script.specs.declared.running.run_error.RunError.TheVariant
 ghost use Rattle.vcd_script.specs.declared.running.script_input.TheConstants.{SCRIPT_LIMIT};
 ghost use Rattle.vcd_amend.specs.Amendment.{Amendment as AmendmentContents};
 ghost use Rattle.vcd_amend.specs.AmendRunEnds.{pass_ends, AreReady};
+ghost use Rattle.vcd_amend.specs.AmendedMeaning.{AreApart};
 ghost use Rattle.vcd_amend.specs.AmendmentContents.{amendment_contents};
 ghost use Rattle.vcd_amend.specs.OutputRemarks as spec;
 ghost use Rattle.vcd_amend.specs.EditsInForce.{lines_in_force};
@@ -168,8 +169,9 @@ impl From<CopyError> for AmendRunError {
 /// edited its changes before and after.
 ///
 /// Before the first reply it writes the remarks on the lines. For these it carries the lines out
-/// once more, without replies. Before the copy it writes the remarks on the output. If either runs
-/// out of memory, or the writer of the remarks fails, the run goes on without the other remarks.
+/// once more, without replies. Before the copy, or if edits are in force without an output, it
+/// writes the remarks on the output. If either runs out of memory, or the writer of the remarks
+/// fails, the run goes on without the other remarks.
 pub fn amend_run<R: Source, S: Source, P: Sink, Q: Sink, W: Sink>(
     alloc: Global,
     passes: &mut Passes<R>,
@@ -208,9 +210,9 @@ pub fn amend_run<R: Source, S: Source, P: Sink, Q: Sink, W: Sink>(
         }
         None => {
             let edited = run_script(alloc, passes, script_reader, replies, remarks, depth, false)?;
-            Ok(Summary {
-                refused: edited.refused,
-            })
+            let refused = edited.refused;
+            remark_without_output(alloc, edited, remarks);
+            Ok(Summary { refused })
         }
     }
 }
@@ -502,9 +504,14 @@ fn copy_amended<R: Source, Q: Sink, W: Sink>(
         ..
     } = edited;
     let cuts = cuts.as_slice();
-    let first = after_cuts(alloc, first, cuts)?;
-    let last = session.capture();
-    let amendment = amendment_for(alloc, declared.as_slice(), &first, origins.as_slice(), last)?;
+    let amendment = amendment_after_cuts(
+        alloc,
+        declared.as_slice(),
+        first,
+        origins.as_slice(),
+        cuts,
+        &session,
+    )?;
     remark_on_output(alloc, declared.as_slice(), &amendment, cuts, remarks);
     let mark = mark_of(head, edit_lines.as_slice());
     amend_marked(
@@ -516,6 +523,60 @@ fn copy_amended<R: Source, Q: Sink, W: Sink>(
         mark,
         out,
     )
+}
+
+/// Writes the remarks on the output that the script would have, if edits are in force. An error
+/// ends these alone.
+fn remark_without_output<Q: Sink>(alloc: Global, edited: Edited, remarks: &mut Q)
+    requires sound { IsSound (contents edited.first) }
+    requires sizes { HaveSizesOf (contents edited.first).signals
+        (declarations_of edited.declared.items) }
+    requires come { IsLaterCapture (contents edited.first) edited.origins.items
+        edited.session.now }
+    ensures { TakesOutputRemarks (declarations_of edited.declared.items)
+        (contents edited.first) edited.origins.items edited.cuts.items edited.session.now
+        (device_end Q.taken Q.has_failed remarks.old remarks.new) }
+{
+    let Edited {
+        declared,
+        first,
+        origins,
+        cuts,
+        edit_lines,
+        session,
+        ..
+    } = edited;
+    if edit_lines.is_empty() {
+        return;
+    }
+    let declared = declared.as_slice();
+    let cuts = cuts.as_slice();
+    let origins = origins.as_slice();
+    if let Ok(amendment) = amendment_after_cuts(alloc, declared, first, origins, cuts, &session) {
+        remark_on_output(alloc, declared, &amendment, cuts, remarks);
+    }
+}
+
+/// What is done to the file after the cuts, so that it means the last capture.
+fn amendment_after_cuts(
+    alloc: Global,
+    declared: &[DeclaredVariable],
+    first: Capture,
+    origins: &[usize],
+    cuts: &[CutTicks],
+    session: &Session,
+) -> Result<Amendment, NoMemory>
+    requires sound { IsSound (contents first) }
+    requires sizes { HaveSizesOf (contents first).signals (declarations_of declared.now) }
+    requires come { IsLaterCapture (contents first) origins.now session.now.now }
+    ensures made { IfOk result (λ amendment. IsAmendmentFor (declarations_of declared.now)
+        (capture_after_cuts (contents first) cuts.now).signals origins.now
+        session.now.now.signals (amendment_contents amendment)) }
+    ensures apart { IfOk result (λ amendment. AreApart (amendment_contents amendment).codes) }
+{
+    let first = after_cuts(alloc, first, cuts)?;
+    let amendment = amendment_for(alloc, declared, &first, origins, session.capture())?;
+    Ok(amendment)
 }
 
 /// Writes the remarks on the output, if the writer has not failed. An error ends these alone.

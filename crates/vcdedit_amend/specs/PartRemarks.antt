@@ -1,7 +1,7 @@
 -- What is said of a part beside its text: the project's own.
 use Rattle.std.specs.Prelude.{if◌then◌else◌, List, [], ◌∷◌, ◌++◌, map, codes, ℕ, nat_lt}
 use Rattle.std.specs.Fmt.{decimal}
-use Rattle.vcd_amend.specs.OutputRemarks.{names_remark, removed_remark, traces_remark}
+use Rattle.vcd_amend.specs.OutputRemarks.{names_remark, removed_remark}
 use Rattle.vcd_part.specs.declared.written_part.WrittenPart.{WrittenPart}
 
 -- a line that ends with a number, and a line feed (10)
@@ -12,6 +12,12 @@ line_with_number words n = words ++ decimal n ++ 10 ∷ []
 abbrev pub early_end_remark : WrittenPart → List ℕ
 early_end_remark w = if w.ends_early
     then line_with_number (codes "output: --to is past the last tick, which is ") w.end else []
+
+-- the remark on variables of these names, which are removed: what is none of their changes stays
+abbrev pub left_traces_remark : (names : List (List ℕ)) → List ℕ
+left_traces_remark names = names_remark
+    (codes "removed, but scopes, comments, marks, time stamps, namesakes and copies under other"
+    ++ codes " codes may tell of them") names
 
 -- the remark on the comments and other commands that stay
 abbrev pub comments_remark : WrittenPart → List ℕ
@@ -31,5 +37,5 @@ first_events_remark names =
 -- all remarks on a part
 abbrev pub part_remarks : WrittenPart → List ℕ
 part_remarks w = early_end_remark w ++ removed_remark (map (λ v. v.name) w.still_shown)
-    ++ traces_remark w.removed ++ scopes_remark w.emptied_scopes ++ comments_remark w
+    ++ left_traces_remark w.removed ++ scopes_remark w.emptied_scopes ++ comments_remark w
     ++ first_events_remark (map (λ v. v.name) w.events_left_out_at_first)

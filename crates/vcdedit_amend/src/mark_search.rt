@@ -1,28 +1,51 @@
-//! A search for the mark of an earlier run, in the bytes of a capture as they are read.
+//! What is looked for in the bytes of a capture as they are read: the mark of an earlier run, the
+//! comment of a part, and whether the last line has a line feed.
 
 ghost use Rattle.std.specs.Prelude.{◌≡◌};
 
 use std::io::Eprint;
 use vcd_core::{DeviceFault, Source, is_white_space};
 
-/// The words by which a mark is known, which come one after another.
-const WORDS: [&[u8]; 4] = [b"$enddefinitions", b"$end", b"$comment", b"vcdedit-amend"];
+/// More bytes than any word has that is looked for.
+const WORD_BYTES: usize = 16;
 
-/// A source in which a mark is looked for, or not. What it gives is what the source below it gives.
+/// A source in which a mark and the comment of a part are looked for, or not. What it gives is what
+/// the source below it gives.
 #[derive(Drop)]
 pub struct Searched<S> {
     source: S,
     search: Option<MarkSearch>,
+    // the byte that came last, if one has come
+    last: Option<u8>,
 }
 
-/// How far a search is. A mark comes directly after the declarations, so the search is over there.
+/// How far a search is. The comment of a part stands among the declarations, and a mark comes right
+/// after them, so the search is over there.
 #[derive(Clone, Copy)]
 pub struct MarkSearch {
-    // how many of the words have come
-    found: usize,
-    // how many bytes of the next one have come, if what came of this word begins with them
-    matched: Option<usize>,
-    is_over: bool,
+    place: Place,
+    // the first bytes of a word that has begun, and how many bytes it has
+    word: [u8; WORD_BYTES],
+    len: usize,
+    has_part: bool,
+    has_mark: bool,
+}
+
+/// What the words so far end with.
+#[derive(Clone, Copy, PartialEq)]
+enum Place {
+    /// Declarations.
+    Declarations,
+    /// `$comment` among the declarations.
+    Comment,
+    /// `$enddefinitions`.
+    LastDeclaration,
+    /// All declarations.
+    Body,
+    /// `$comment` right after the declarations.
+    FirstComment,
+    /// More than that.
+    Over,
 }
 
 impl<S: Source> Searched<S> {
@@ -30,12 +53,26 @@ impl<S: Source> Searched<S> {
     pub fn new(source: S, search: Option<MarkSearch>) -> Searched<S>
         ensures { ⟦<Searched<S> as Source>⟧.has_failed result ≡ S.has_failed source }
     {
-        Searched { source, search }
+        Searched {
+            source,
+            search,
+            last: None,
+        }
     }
 
     /// Whether a mark has come, if one is looked for.
     pub fn has_found_mark(&self) -> bool {
-        self.search.is_some_and(|search| search.has_found())
+        self.search.is_some_and(|search| search.has_mark)
+    }
+
+    /// Whether the comment of a part has come, if one is looked for.
+    pub fn has_found_part(&self) -> bool {
+        self.search.is_some_and(|search| search.has_part)
+    }
+
+    /// Whether bytes have come, and the last one is no line feed.
+    pub fn ends_within_line(&self) -> bool {
+        self.last.is_some_and(|byte| byte != b'\n')
     }
 }
 
@@ -46,6 +83,9 @@ impl<S: Source> Source for Searched<S> {
 
     fn read(&mut self, buffer: &mut [u8]) -> Result<usize, DeviceFault> {
         let count = self.source.read(buffer)?;
+        if let Some(byte) = buffer[..count].last() {
+            self.last = Some(*byte);
+        }
         if let Some(search) = &mut self.search {
             search.go_on(&buffer[..count]);
         }
@@ -64,25 +104,34 @@ pub fn tell_earlier_mark<R: Eprint>(rt: &R) {
     );
 }
 
+/// Tells that the comment of a part was found, which stays in the output.
+pub fn tell_part_comment<R: Eprint>(rt: &R) {
+    let _ = eprintln!(rt;
+        "output: the comment on what part it is stays, and tells nothing of the script"
+    );
+}
+
+/// Tells that the last line of a capture has no line feed, as in a file that was cut off.
+pub fn tell_unended_line<R: Eprint>(rt: &R) {
+    let _ = eprintln!(rt; "capture: the last line has no line feed, so the file may be cut short");
+}
+
 impl MarkSearch {
     /// Before the first byte.
     pub fn new() -> MarkSearch {
         MarkSearch {
-            found: 0,
-            matched: Some(0),
-            is_over: false,
+            place: Place::Declarations,
+            word: [0; WORD_BYTES],
+            len: 0,
+            has_part: false,
+            has_mark: false,
         }
-    }
-
-    /// Whether the mark has come.
-    fn has_found(&self) -> bool {
-        self.found == WORDS.len()
     }
 
     /// Goes on with further bytes.
     fn go_on(&mut self, bytes: &[u8]) {
         for byte in bytes {
-            if self.is_over {
+            if self.place == Place::Over {
                 return;
             }
             self.take(*byte);
@@ -91,31 +140,46 @@ impl MarkSearch {
 
     /// Takes one byte more.
     fn take(&mut self, byte: u8) {
-        let Some(word) = WORDS.get(self.found) else {
-            self.is_over = true;
-            return;
-        };
         if is_white_space(byte) {
-            self.end_word(word.len());
+            self.end_word();
             return;
         }
-        self.matched = match self.matched {
-            Some(count) if word.get(count) == Some(&byte) => Some(count + 1),
-            _ => None,
-        };
+        if let Some(place) = self.word.get_mut(self.len) {
+            *place = byte;
+        }
+        self.len = self.len.saturating_add(1);
     }
 
-    /// Ends a word, of which the next one has so many bytes.
-    fn end_word(&mut self, len: usize) {
-        match self.matched {
-            Some(0) => {}
-            Some(count) if count == len => self.found = self.found.saturating_add(1),
-            _ => {
-                // after the declarations comes another item
-                self.is_over = self.found > 1;
-                self.found = 0;
-            }
+    /// Ends a word, if one has begun.
+    fn end_word(&mut self) {
+        if self.len == 0 {
+            return;
         }
-        self.matched = Some(0);
+        let word = self.word.get(..self.len).unwrap_or(b"");
+        self.has_part |= self.place == Place::Comment && word == b"vcdedit-amend:".as_slice();
+        self.has_mark |= self.place == Place::FirstComment && word == b"vcdedit-amend".as_slice();
+        self.place = next_place(self.place, word);
+        self.len = 0;
     }
+}
+
+/// What the words end with after one more.
+fn next_place(place: Place, word: &[u8]) -> Place {
+    match place {
+        Place::LastDeclaration if word == b"$end".as_slice() => Place::Body,
+        Place::Body if word == b"$comment".as_slice() => Place::FirstComment,
+        Place::Declarations | Place::Comment | Place::LastDeclaration => declared_place(word),
+        Place::Body | Place::FirstComment | Place::Over => Place::Over,
+    }
+}
+
+/// What words among the declarations end with, of which this is the last one.
+fn declared_place(word: &[u8]) -> Place {
+    if word == b"$comment".as_slice() {
+        return Place::Comment;
+    }
+    if word == b"$enddefinitions".as_slice() {
+        return Place::LastDeclaration;
+    }
+    Place::Declarations
 }

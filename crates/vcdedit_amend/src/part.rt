@@ -10,10 +10,10 @@ ghost use Rattle.vcdedit_amend.specs.PartOutcome as spec;
 use crate::amend_error::{AmendError, NO_PART_FILE, NO_SCRIPT, NOT_READ};
 use crate::capture_mark::{digest_of, head_of};
 use crate::command_line::Options;
-use crate::mark_search::{MarkSearch, Searched, tell_earlier_mark};
+use crate::mark_search::{MarkSearch, Searched, tell_earlier_mark, tell_unended_line};
 use crate::near::tell_unmet;
 use crate::part_file::PartFile;
-use crate::part_remarks::remark_on_part;
+use crate::part_remarks::{remark_on_part, tell_held_part};
 use crate::part_words::request_of;
 use crate::passes::{CaptureFile, refuse_replaced};
 use crate::program::run_on_file;
@@ -99,7 +99,8 @@ fn run_opened<R: Runtime + AllocGlobal>(
     }
 }
 
-/// Writes the part where the options say, and tells if it has a mark of an earlier run.
+/// Writes the part where the options say, and tells if it has a mark of an earlier run, or the
+/// capture's last line has no line feed.
 fn write_searched<R: Runtime + AllocGlobal, C: Source + Drop>(
     rt: &R,
     source: C,
@@ -113,8 +114,13 @@ fn write_searched<R: Runtime + AllocGlobal, C: Source + Drop>(
 {
     let mut source = Searched::new(source, Some(MarkSearch::new()));
     let outcome = write_output(rt, &mut source, again, request, options);
-    if outcome.is_ok() && !options.is_quiet && source.has_found_mark() {
-        tell_earlier_mark(rt);
+    if outcome.is_ok() && !options.is_quiet {
+        if source.has_found_mark() {
+            tell_earlier_mark(rt);
+        }
+        if source.ends_within_line() {
+            tell_unended_line(rt);
+        }
     }
     outcome
 }
@@ -210,6 +216,7 @@ fn run_on_part<R: Runtime + AllocGlobal, C: Source>(
     match hold_part(rt, source, again, request, file) {
         Ok(written) => {
             remark_on_part(rt, options.is_quiet, &written);
+            tell_held_part(rt, options);
             run_on_file_of(rt, &part, again, mark, options)
         }
         Err(error) => Err(on_part_file(error)),

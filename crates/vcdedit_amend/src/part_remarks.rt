@@ -3,11 +3,13 @@
 ghost use Rattle.std.specs.Prelude.{◌≡◌, ◌++◌, map, IfOk, OnOk};
 ghost use Rattle.vcdedit_amend.specs.PartRemarks as spec;
 
+use crate::command_line::Options;
 use crate::remarks::Remarks;
 use itoa::Buffer;
 use std::alloc::Global;
+use std::io::Eprint;
 use std::rt::Runtime;
-use vcd_amend::{append_names_remark, append_removed_remark, append_traces_remark};
+use vcd_amend::{append_names_remark, append_removed_remark};
 use vcd_core::{NoMemory, Word, copy_word, write_all};
 use vcd_part::{NamedVariable, WrittenPart};
 
@@ -15,6 +17,21 @@ use vcd_part::{NamedVariable, WrittenPart};
 pub fn remark_on_part<R: Runtime + AllocGlobal>(rt: &R, is_quiet: bool, written: &WrittenPart) {
     if let Ok(text) = part_remarks(rt.alloc(), written) {
         let _ = write_all(&mut Remarks::new(rt, is_quiet), text.as_slice());
+    }
+}
+
+/// Tells what a script on a part, and a mark of it, do not say.
+pub fn tell_held_part<R: Eprint>(rt: &R, options: &Options<'_, '_>) {
+    if options.is_quiet {
+        return;
+    }
+    if options.script.is_some() && options.from.is_some() {
+        let _ = eprintln!(rt;
+            "output: lines and replies have the ticks of the part, which count from --from"
+        );
+    }
+    if options.is_marked && (options.keep.is_some() || options.remove.is_some()) {
+        let _ = eprintln!(rt; "output: the mark has not the --keep and --remove of the part");
     }
 }
 
@@ -26,7 +43,7 @@ fn part_remarks(alloc: Global, written: &WrittenPart) -> Result<Vec<u8>, NoMemor
     append_early_end(&mut text, written)?;
     let names = names_of(alloc, written.still_shown.as_slice())?;
     append_removed_remark(&mut text, names.as_slice())?;
-    append_traces_remark(&mut text, written.removed.as_slice())?;
+    append_left_traces(&mut text, written.removed.as_slice())?;
     append_scopes(&mut text, written.emptied_scopes.as_slice())?;
     append_comments(&mut text, written)?;
     let events = names_of(alloc, written.events_left_out_at_first.as_slice())?;
@@ -46,6 +63,18 @@ fn append_early_end(text: &mut Vec<u8>, written: &WrittenPart) -> Result<(), NoM
         );
     }
     Ok(())
+}
+
+/// Appends the remark on variables of these names, which are removed.
+fn append_left_traces(text: &mut Vec<u8>, names: &[Word]) -> Result<(), NoMemory>
+    ensures { OnOk result (text.new.items ≡ text.old.items ++ spec.left_traces_remark names.now) }
+{
+    append_names_remark(
+        text,
+        b"removed, but scopes, comments, marks, time stamps, namesakes and copies under other \
+        codes may tell of them",
+        names,
+    )
 }
 
 /// Appends the remark on the comments and other commands that stay.

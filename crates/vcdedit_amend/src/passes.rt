@@ -143,6 +143,16 @@ pub fn have_found_mark<R: Runtime>(passes: &mut Passes<Pass<'_, R>>) -> bool {
     passes.declarations.source().source().has_found_mark()
 }
 
+/// Whether the comment of a part has come, if a pass looks for one.
+pub fn have_found_part<R: Runtime>(passes: &mut Passes<Pass<'_, R>>) -> bool {
+    passes.declarations.source().source().has_found_part()
+}
+
+/// Whether the last line of the capture has no line feed, if a pass has read it to its end.
+pub fn end_within_line<R: Runtime>(passes: &mut Passes<Pass<'_, R>>) -> bool {
+    passes.declarations.source().source().ends_within_line()
+}
+
 /// Takes what the passes have shown from the terminal.
 pub fn clear_progress<R: Runtime>(passes: &mut Passes<Pass<'_, R>>) {
     passes.declarations.source().clear();

@@ -16,10 +16,11 @@ use crate::amend_error::{AmendError, NO_MEMORY, NO_SCRIPT};
 use crate::capture_mark::{digest_of, head_of};
 use crate::command_line::{Options, command_line, options_of};
 use crate::file_reasons::tell_reason;
-use crate::mark_search::tell_earlier_mark;
+use crate::mark_search::{tell_earlier_mark, tell_part_comment, tell_unended_line};
 use crate::part::run_part;
 use crate::passes::{
-    CaptureFile, Pass, clear_progress, have_found_mark, refuse_changed, refuse_replaced,
+    CaptureFile, Pass, clear_progress, end_within_line, have_found_mark, have_found_part,
+    refuse_changed, refuse_replaced,
 };
 use crate::remarks::Remarks;
 use crate::reporting::{PROGRAM, report};
@@ -151,9 +152,17 @@ pub fn run_on_file<R: Runtime + AllocGlobal>(
     let mut passes = capture.open_passes(rt)?;
     let outcome = run_passes(rt, guarded, &mut passes, mark, options);
     clear_progress(&mut passes);
-    let is_told = outcome.is_ok() && options.output.is_some() && !options.is_marked;
-    if is_told && !options.is_quiet && have_found_mark(&mut passes) {
-        tell_earlier_mark(rt);
+    if outcome.is_ok() && !options.is_quiet {
+        let is_unmarked = options.output.is_some() && !options.is_marked;
+        if is_unmarked && have_found_mark(&mut passes) {
+            tell_earlier_mark(rt);
+        }
+        if is_unmarked && have_found_part(&mut passes) {
+            tell_part_comment(rt);
+        }
+        if end_within_line(&mut passes) {
+            tell_unended_line(rt);
+        }
     }
     outcome
 }

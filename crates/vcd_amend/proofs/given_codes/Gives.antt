@@ -49,7 +49,7 @@ declared_to [] os = []
 declared_to (d ∷ ds) os = kept_to (is_skipped d) d os ++ declared_to ds (later (is_skipped d) os)
 
 -- a variable that stays is what is left of it
-declared_one : (d : VariableDeclaration) (t : CodedSignal) → variable_left (fate_for d (Some t)) d
+pub declared_one : (d : VariableDeclaration) (t : CodedSignal) → variable_left (fate_for d (Some t)) d
     ≡ with_coded_signal d t ∷ []
 declared_one d t = elim (cases_Bool (pointwise bytes_eq d.words t.signal.words && bytes_eq d.code t.code)) [
   | inl same ↦

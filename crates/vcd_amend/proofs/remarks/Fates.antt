@@ -1,16 +1,18 @@
 -- Variables with their fates: one more, and those that pass a test.
 use Rattle.std.proofs.Common.{◌≡◌, ◌∙◌, ◌<◌, ◌+◌, ℕ, Bool, List, [], ◌∷◌, ◌++◌, map, take, length, get_or}
 use Rattle.std.proofs.Common.{refl, sym, ap, if◌then◌else◌, true, false}
+use Rattle.std.specs.Prelude.{bytes_eq}
 use Rattle.std.specs.List.{flat_map}
 use Rattle.std.proofs.lemmas.Grind.{flat_map-append}
 use Rattle.std.proofs.lemmas.List.{append-nil, take_more, map-append}
 use Rattle.vcd_text.specs.AsDeclared.{declared_name}
 use Rattle.vcd_text.specs.Grammar.{VariableDeclaration}
 use Rattle.vcd_amend.specs.Amendment.{Amendment, Fate, fate_of, flat_map_along, variable_left, variables_left}
-use Rattle.vcd_amend.specs.OutputRemarks.{edited_apart, has_other_code, is_removed_apart, is_removed_by, removed_apart}
-use Rattle.vcd_amend.specs.OutputRemarks.{removed_variables}
+use Rattle.vcd_amend.specs.OutputRemarks.{codes_left, is_left_apart, left_apart, is_removed_apart, is_removed_by}
+use Rattle.vcd_amend.specs.OutputRemarks.{removed_apart, removed_variables}
 use Rattle.vcd_amend.specs.Amendment.{amended_variables}
 use Rattle.vcd_amend.specs.inside.OutputRemarks.{VariableFate, variable_fates, variables_by_fate, variables_in_place}
+use Rattle.vcd_amend.specs.inside.OutputRemarks.{codes_in_place, is_fated_apart}
 use Rattle.vcd_amend.proofs.amended.Along.{flat_map_along-append}
 
 -- ---- one more
@@ -38,9 +40,18 @@ along_fates : {B : Type 0} (a : Amendment) (g : Fate → VariableDeclaration →
 along_fates a g before [] = refl
 along_fates a g before (d ∷ ds) = ap (λ l. g (fate_of a before d) d ++ l) (along_fates a g (before ++ d ∷ []) ds)
 
-pub edited_are : (a : Amendment) (ds : List VariableDeclaration)
-    → variables_by_fate has_other_code (variable_fates a ds) ≡ edited_apart a ds
-edited_are a ds = along_fates a (λ f d. if has_other_code f d then d ∷ [] else []) [] ds
+pub codes_left_are : (a : Amendment) (ds : List VariableDeclaration) (code : List ℕ)
+    → codes_in_place (variable_fates a ds) code ≡ codes_left a ds code
+codes_left_are a ds code = ap (map (λ d. d.code))
+    (along_fates a (λ f d. if bytes_eq code d.code then variable_left f d else []) [] ds)
+
+pub left_apart_are : (a : Amendment) (ds : List VariableDeclaration)
+    → variables_by_fate (is_fated_apart (variable_fates a ds)) (variable_fates a ds) ≡ left_apart a ds
+left_apart_are a ds =
+    along_fates a (λ f d. if is_fated_apart (variable_fates a ds) f d then d ∷ [] else []) [] ds
+    ∙ ap (λ (left : List ℕ → List (List ℕ)). flat_map_along
+    (λ before d. if is_left_apart (left d.code) (fate_of a before d) d then d ∷ [] else []) [] ds)
+    (λ i code. codes_left_are a ds code i)
 
 pub removed_apart_are : (a : Amendment) (ds : List VariableDeclaration)
     → variables_by_fate (is_removed_apart (amended_variables a ds)) (variable_fates a ds) ≡ removed_apart a ds
@@ -84,3 +95,12 @@ pub in_place_more : (vs : List VariableFate) (v : VariableFate)
 in_place_more vs v =
     flat_map-append (λ (w : VariableFate). variable_left w.fate w.variable) vs (v ∷ [])
     ∙ ap (λ l. variables_in_place vs ++ l) (append-nil (variable_left v.fate v.variable))
+
+-- the codes that are left of one more
+pub codes_in_place_more : (vs : List VariableFate) (v : VariableFate) (code : List ℕ)
+    → codes_in_place (vs ++ v ∷ []) code ≡ codes_in_place vs code ++ codes_in_place (v ∷ []) code
+codes_in_place_more vs v code =
+    let f : VariableFate → List VariableDeclaration =
+    λ w. if bytes_eq code w.variable.code then variable_left w.fate w.variable else [] in
+    ap (map (λ (d : VariableDeclaration). d.code)) (flat_map-append f vs (v ∷ []))
+    ∙ map-append (λ (d : VariableDeclaration). d.code) (flat_map f vs) (flat_map f (v ∷ []))

@@ -1,5 +1,5 @@
 -- The remarks of a run are those on the lines on the capture that the plan has, and then those on the output.
-use Rattle.std.proofs.Common.{◌≡◌, ◌≤◌, ◌==◌, ◌+◌, ℕ, suc, ◌∙◌, Bool, true, not, List, [], ◌∷◌, Option, Some, subst}
+use Rattle.std.proofs.Common.{◌≡◌, ◌≤◌, ◌==◌, ◌+◌, ℕ, suc, ◌∙◌, Bool, not, List, [], ◌∷◌, Option, Some, subst}
 use Rattle.std.proofs.Common.{length, take, refl, sym, ap, inl, inr, arith}
 use Rattle.std.specs.Io.KnownBytes.{Appends}
 use Rattle.std.proofs.lemmas.List.{append-nil, length-append}
@@ -85,7 +85,7 @@ file_means file pieces tail c skipped is = record {
   left_out = is.left_out;
 }
 
--- the remarks on the lines alone, where a run ends without an output or before it
+-- the remarks on the lines alone, where a run ends before its output
 pub line_remarks_alone : (depth : ℕ) (passes : PassEnds) (script remarks : DeviceEnd)
     → TakesLineRemarks depth passes script remarks → TakesRemarks depth passes script remarks
 unfolding TakesRemarks TakesLineRemarks
@@ -104,9 +104,9 @@ cut_counts (Cut from to ∷ es) = length-append (ticks_of_cuts es) _ ∙ sum_of 
     sum_of same = omega (arith, same)
 cut_counts (e ∷ es) = cut_counts es
 
-module _ (file lines : List ℕ) (depth : ℕ) (took : List ℕ → Type 0) (declared : List VariableDeclaration)
-    (first : Contents) (ks : List ℕ) (cs : List CutTicks) (last : Contents) (refused : ℕ)
-    (edited : IsEdited file lines depth true took declared first ks cs last refused) where
+module _ (file lines : List ℕ) (depth : ℕ) (writes : Bool) (took : List ℕ → Type 0)
+    (declared : List VariableDeclaration) (first : Contents) (ks : List ℕ) (cs : List CutTicks) (last : Contents)
+    (refused : ℕ) (edited : IsEdited file lines depth writes took declared first ks cs last refused) where
   -- the remarks by an amendment that is known from the captures are those of the run
   output_remarks_are : (a : Amendment) (c : Contents) (skipped : ℕ) (pieces : List Piece) (tail : List ℕ)
       → IsAmendmentFor declared (capture_after_cuts first cs).signals ks last.signals a
@@ -121,7 +121,7 @@ module _ (file lines : List ℕ) (depth : ℕ) (took : List ℕ → Type 0) (dec
       let here : PiecesMean file pieces tail whole edited.skipped =
       subst (λ n. PiecesMean file pieces tail whole n) one.1
       (subst (λ (d : Contents). PiecesMean file pieces tail d skipped) one.0 is) in
-      let known = known_for_run file lines depth true took declared first ks cs last refused a pieces tail edited
+      let known = known_for_run file lines depth writes took declared first ks cs last refused a pieces tail edited
       is_for here in
       let amendment : a ≡ amendment_of_run whole edited.skipped depth all pieces =
       known_is_of_run file pieces tail edited.silent whole edited.skipped depth all a here edited.heard known in
@@ -135,7 +135,7 @@ module _ (file lines : List ℕ) (depth : ℕ) (took : List ℕ → Type 0) (dec
 
 -- the remarks on the lines, and then those on the output, while the capture is shown by a later pass
 pub with_output_remarks : (depth : ℕ) (earlier later : PassEnds) (script : DeviceEnd)
-    (before between after : Option (List ℕ)) (failed_between failed : Bool) (took : List ℕ → Type 0)
+    (before between after : Option (List ℕ)) (failed_between failed writes : Bool) (took : List ℕ → Type 0)
     (declared : List VariableDeclaration) (first : Contents) (ks : List ℕ) (cs : List CutTicks) (last : Contents)
     (refused : ℕ)
     → TakesLineRemarks depth earlier script
@@ -143,13 +143,13 @@ pub with_output_remarks : (depth : ℕ) (earlier later : PassEnds) (script : Dev
     → ((file : List ℕ) → AllShow later file → AllShow earlier file)
     → ((file lines : List ℕ) → (earlier.declarations.before ≡ Some file) × (earlier.outline.before ≡ Some file)
     × (earlier.changes.before ≡ Some file) → script.before ≡ Some lines
-    → IsEdited file lines depth true took declared first ks cs last refused)
+    → IsEdited file lines depth writes took declared first ks cs last refused)
     → TakesOutputRemarks declared first ks cs last
     (record { before = between; after = after; has_failed = failed })
     → TakesRemarks depth later script (record { before = before; after = after; has_failed = failed })
 unfolding TakesRemarks TakesLineRemarks
-with_output_remarks depth earlier later script before between after failed_between failed took declared first ks cs
-    last refused takes shows edited output file lines shown script_shows c skipped pieces tail is =
+with_output_remarks depth earlier later script before between after failed_between failed writes took declared first
+    ks cs last refused takes shows edited output file lines shown script_shows c skipped pieces tail is =
     let all : List (List ℕ) = script_lines lines in
     let seen : AllShow earlier file = shows file shown in
     let text : List ℕ = remarks_of_run c skipped depth all in
@@ -169,8 +169,8 @@ with_output_remarks depth earlier later script before between after failed_betwe
       | inr given ↦
           let known = edited file lines (seen.0, seen.1, seen.2) script_shows in
           let same : output_remarks given.0 declared (not (length cs == 0)) ≡ more =
-          output_remarks_are file lines depth took declared first ks cs last refused known given.0 c skipped pieces tail
-          given.1 is in
+          output_remarks_are file lines depth writes took declared first ks cs last refused known given.0 c skipped
+          pieces tail given.1 is in
           joined given.2 (subst (λ (l : List ℕ). given.2 ≤ length l) same given.3.0)
           (subst (λ (l : List ℕ). Appends between after (take given.2 l)) same given.3.1)
     ]

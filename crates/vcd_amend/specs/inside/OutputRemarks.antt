@@ -1,5 +1,6 @@
 -- Variables with their fates, as the remarks on an output find them.
-use Rattle.std.specs.Prelude.{◌≡◌, ℕ, Bool, not, ◌&&◌, if◌then◌else◌, List, [], ◌∷◌, is_some}
+use Rattle.std.specs.Prelude.{◌≡◌, ℕ, Bool, true, false, not, ◌&&◌, if◌then◌else◌, List, [], ◌∷◌}
+use Rattle.std.specs.Prelude.{is_some, map, bytes_eq}
 use Rattle.std.specs.List.{filter, flat_map}
 use Rattle.vcd_text.specs.Grammar.{VariableDeclaration}
 use Rattle.vcd_text.specs.declared.reading.code_targets.CodeTargets.{CodeTargets}
@@ -9,7 +10,9 @@ use Rattle.vcd_amend.specs.Amendment.{first_with_code}
 use Rattle.vcd_amend.specs.DeclaredVariables.{declaration_of_variable}
 use Rattle.vcd_amend.specs.declared.remarks.fated_variables.FatedVariable.{FatedVariable}
 use Rattle.vcd_amend.specs.declared.amending.code_uses.CodeUse.{CodeUse}
-use Rattle.vcd_amend.specs.OutputRemarks.{is_event}
+use Rattle.vcd_amend.specs.declared.remarks.codes_left.CodesLeft.{CodesLeft}
+use Rattle.vcd_amend.specs.declared.remarks.codes_left.CodesLeft.TheVariants as lefts
+use Rattle.vcd_amend.specs.OutputRemarks.{has_other_than, is_event, is_left_apart}
 use Rattle.vcd_amend.specs.inside.amending.VariableLeft.{fate_of_left}
 
 -- a variable with its fate
@@ -40,6 +43,27 @@ abbrev pub variables_in_place : List VariableFate → List VariableDeclaration
 variables_in_place vs = flat_map (λ v. variable_left v.fate v.variable) vs
 
 -- ---- codes
+
+-- the codes that variables with this code in the file have in the amended file
+abbrev pub codes_in_place : List VariableFate → (code : List ℕ) → List (List ℕ)
+codes_in_place vs code = map (λ d. d.code) (flat_map
+    (λ v. if bytes_eq code v.variable.code then variable_left v.fate v.variable else []) vs)
+
+-- whether a variable of this fate is left, with another code than another of its code
+abbrev pub is_fated_apart : (all : List VariableFate) → Fate → VariableDeclaration → Bool
+is_fated_apart all fate d = is_left_apart (codes_in_place all d.code) fate d
+
+-- whether one of these codes is another than this one
+abbrev pub other_is_left : CodesLeft → (code : List ℕ) → Bool
+other_is_left lefts.Nothing code = false
+other_is_left (lefts.One k) code = not (bytes_eq k.now code)
+other_is_left lefts.Several code = true
+
+-- these are the codes that are left of each code of the file
+abbrev pub HaveCodesLeft : CodeTargets CodesLeft → (left : (code : List ℕ) → List (List ℕ))
+    → Type 0
+HaveCodesLeft codes left = (own code : List ℕ)
+    → other_is_left (code_target codes own) code ≡ has_other_than code (left own)
 
 -- these are the codes in use, if these variables are left
 abbrev pub HaveCodesOf : CodeTargets CodeUse → List VariableDeclaration → Type 0

@@ -5,13 +5,14 @@ ghost use Rattle.std.specs.List.{flat_map, join_by};
 ghost use Rattle.vcd_core.specs.FullName.{name_bytes};
 ghost use Rattle.vcd_text.specs.AsDeclared as declared;
 ghost use Rattle.vcd_amend.specs.DeclaredVariables.{declaration_of_variable};
+ghost use Rattle.vcd_script.specs.NameRemarks.{shown_byte};
 ghost use Rattle.vcd_amend.specs.OutputRemarks as spec;
 
 use crate::declarations::DeclaredVariable;
 use crate::skipped_names::declared_name;
 use std::alloc::Global;
 use vcd_core::{FullName, NoMemory, Seq, Word};
-use vcd_script::append_more;
+use vcd_script::{append_more, append_name};
 
 /// At most how many names a remark shows.
 const SHOWN_NAMES: usize = 5;
@@ -62,7 +63,7 @@ fn first_names(names: &[Word]) -> &[Word]
 /// Appends names with commas between them.
 fn append_joined(text: &mut Vec<u8>, names: &[Word]) -> Result<(), NoMemory>
     ensures { OnOk result (text.new.items
-        ≡ text.old.items ++ join_by (map spec.shown_byte) (codes ", ") names.now) }
+        ≡ text.old.items ++ join_by (map shown_byte) (codes ", ") names.now) }
 {
     match names {
         [first, others @ ..] => {
@@ -76,34 +77,13 @@ fn append_joined(text: &mut Vec<u8>, names: &[Word]) -> Result<(), NoMemory>
 /// Appends names, each after a comma.
 fn append_others(text: &mut Vec<u8>, names: &[Word]) -> Result<(), NoMemory>
     ensures { OnOk result (text.new.items ≡ text.old.items
-        ++ flat_map (λ name. codes ", " ++ map spec.shown_byte name) names.now) }
+        ++ flat_map (λ name. codes ", " ++ map shown_byte name) names.now) }
 {
     for name in names {
         text.extend_from_slice(b", ")?;
         append_name(text, name.as_slice())?;
     }
     Ok(())
-}
-
-/// Appends a name as a remark shows it.
-fn append_name(text: &mut Vec<u8>, name: &[u8]) -> Result<(), NoMemory>
-    ensures { OnOk result (text.new.items ≡ text.old.items ++ map spec.shown_byte name.now) }
-{
-    for byte in name {
-        text.push(shown_byte(*byte))?;
-    }
-    Ok(())
-}
-
-/// A byte of a name as a remark shows it.
-fn shown_byte(byte: u8) -> u8
-    ensures { result ≡ spec.shown_byte byte }
-{
-    if byte >= 32 && byte <= 126 {
-        byte
-    } else {
-        b'?'
-    }
 }
 
 /// The full name of a variable, in memory of its own.

@@ -1,5 +1,5 @@
-//! The variables that are edited or removed, while others of their code are not, and all that are
-//! removed.
+//! The variables that are left with another code than others of their code, those that are removed
+//! while others of their code are not, and all that are removed.
 
 ghost use Rattle.std.specs.Prelude.{◌≡◌, ◌++◌, ℕ, List, map, is_some, IfOk};
 ghost use Rattle.vcd_text.specs.AsDeclared.{declared_name};
@@ -7,13 +7,16 @@ ghost use Rattle.vcd_text.specs.Grammar.{VariableDeclaration};
 ghost use Rattle.vcd_text.specs.inside.reading.CodeTargets.{code_target};
 ghost use Rattle.vcd_amend.specs.Amendment.{first_with_code};
 ghost use Rattle.vcd_amend.specs.AmendmentContents.{added_contents};
-ghost use Rattle.vcd_amend.specs.OutputRemarks.{has_other_code, is_removed_apart, is_removed_by};
+ghost use Rattle.vcd_amend.specs.OutputRemarks.{is_removed_apart, is_removed_by};
 ghost use Rattle.vcd_amend.specs.inside.OutputRemarks.{fate_in_memory, variables_in_place};
 ghost use Rattle.vcd_amend.specs.inside.OutputRemarks.{variables_by_fate, HaveCodesOf};
+ghost use Rattle.vcd_amend.specs.inside.OutputRemarks.{HaveCodesLeft, VariableFate};
+ghost use Rattle.vcd_amend.specs.inside.OutputRemarks.{codes_in_place, is_fated_apart};
 
 use crate::amending::code_uses::{CodeUse, first_uses};
 use crate::amending::file_amender::{VariableLeft, use_left};
 use crate::amendment::AddedVariable;
+use crate::remarks::codes_left::{CodesLeft, codes_left, other_is_left};
 use crate::remarks::fated_variables::FatedVariable;
 use crate::remarks::names::copy_name;
 use std::alloc::Global;
@@ -41,29 +44,47 @@ pub fn used_codes(
     Ok(uses)
 }
 
-/// The names of the variables that are edited, but not as another variable of their code.
-pub fn edited_names(alloc: Global, fated: &[FatedVariable]) -> Result<Vec<Word>, NoMemory>
-    ensures { IfOk result (λ names. names.items
-        ≡ map declared_name (variables_by_fate has_other_code (map fate_in_memory fated.now))) }
+/// The names of the variables that have another code in the amended file than another variable of
+/// their code.
+pub fn left_apart_names(alloc: Global, fated: &[FatedVariable]) -> Result<Vec<Word>, NoMemory>
+    ensures { IfOk result (λ names. names.items ≡ map declared_name (variables_by_fate
+        (is_fated_apart (map fate_in_memory fated.now)) (map fate_in_memory fated.now))) }
+{
+    let codes = codes_left(alloc, fated)?;
+    names_apart(alloc, fated, &codes)
+}
+
+/// The names of the variables that are left, with another code than one of these that their own
+/// code has left.
+fn names_apart(
+    alloc: Global,
+    fated: &[FatedVariable],
+    codes: &CodeTargets<CodesLeft>,
+) -> Result<Vec<Word>, NoMemory>
+    ensures { IfOk result (λ names. (all : List VariableFate)
+        → HaveCodesLeft codes.now (codes_in_place all) → names.items ≡ map declared_name
+        (variables_by_fate (is_fated_apart all) (map fate_in_memory fated.now))) }
 {
     let mut names = Vec::new(alloc);
     for variable in fated {
-        if has_other_code(variable) {
+        if is_left_apart(variable, codes) {
             names.push(copy_name(alloc, variable.declared)?)?;
         }
     }
     Ok(names)
 }
 
-/// Whether a variable gets another code.
-fn has_other_code(variable: &FatedVariable) -> bool
-    ensures { result ≡ has_other_code (fate_in_memory variable.now).fate
+/// Whether a variable is left, with another code than another one of its code.
+fn is_left_apart(variable: &FatedVariable, codes: &CodeTargets<CodesLeft>) -> bool
+    ensures { (all : List VariableFate) → HaveCodesLeft codes.now (codes_in_place all)
+        → result ≡ is_fated_apart all (fate_in_memory variable.now).fate
         (fate_in_memory variable.now).variable }
 {
+    let own = variable.declared.code.as_slice();
     match variable.left {
-        VariableLeft::Changed { code, .. } => code != variable.declared.code.as_slice(),
-        VariableLeft::All => false,
+        VariableLeft::All => other_is_left(codes.get(own), own),
         VariableLeft::Nothing => false,
+        VariableLeft::Changed { code, .. } => other_is_left(codes.get(own), code),
     }
 }
 

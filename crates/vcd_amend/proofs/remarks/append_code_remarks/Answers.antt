@@ -6,12 +6,12 @@ use Rattle.vcd_text.specs.Grammar.{VariableDeclaration}
 use Rattle.vcd_amend.specs.Amendment.{Amendment, amended_variables}
 use Rattle.vcd_amend.specs.AmendmentContents.{amendment_contents, added_contents}
 use Rattle.vcd_amend.specs.DeclaredVariables.{declarations_of}
-use Rattle.vcd_amend.specs.OutputRemarks.{edited_apart, edited_remark, has_other_code, is_removed_apart, removed_apart}
+use Rattle.vcd_amend.specs.OutputRemarks.{apart_remark, left_apart, is_removed_apart, removed_apart}
 use Rattle.vcd_amend.specs.OutputRemarks.{is_removed_by, removed_remark, removed_variables, traces_remark}
 use Rattle.vcd_amend.specs.declared.remarks.fated_variables.FatedVariable.{FatedVariable}
 use Rattle.vcd_amend.specs.inside.OutputRemarks.{HaveCodesOf, VariableFate, fate_in_memory, variable_fates}
-use Rattle.vcd_amend.specs.inside.OutputRemarks.{variables_by_fate, variables_in_place}
-use Rattle.vcd_amend.proofs.remarks.Fates.{edited_are, removed_apart_are, removed_are, in_place_are}
+use Rattle.vcd_amend.specs.inside.OutputRemarks.{is_fated_apart, variables_by_fate, variables_in_place}
+use Rattle.vcd_amend.proofs.remarks.Fates.{left_apart_are, removed_apart_are, removed_are, in_place_are}
 use Rattle.vcd_amend.proofs.remarks.append_code_remarks.Goals as goal
 
 pub returns : goal.returns
@@ -22,15 +22,15 @@ returns c =
     let fates : (fated : List FatedVariable) → fated ≡ c.in_ok-fated.fated.items
     → map fate_in_memory fated ≡ variable_fates a ds =
     λ fated is. ap (map fate_in_memory) is ∙ c.in_ok-fated.ensures in
-    let edited : c.as_slice-6.result.now ≡ map declared_name (edited_apart a ds) =
-    c.as_slice-6.ensures.value ∙ c.in_ok-edited.ensures
-    ∙ ap (λ (vs : List VariableFate). map declared_name (variables_by_fate has_other_code vs))
-    (fates c.as_slice-3.result.now c.as_slice-3.ensures.value)
-    ∙ ap (map declared_name) (edited_are a ds) in
-    let left : variables_in_place (map fate_in_memory c.as_slice.result.now)
-    ++ map added_contents c.as_slice-2.result.now ≡ amended_variables a ds =
-    (λ i. variables_in_place (fates c.as_slice.result.now c.as_slice.ensures.value i)
-    ++ map added_contents (c.as_slice-2.ensures.value i))
+    let differing : c.as_slice-6.result.now ≡ map declared_name (left_apart a ds) =
+    c.as_slice-6.ensures.value ∙ c.in_ok-differing.ensures
+    ∙ ap (λ (vs : List VariableFate). map declared_name (variables_by_fate (is_fated_apart vs) vs))
+    (fates c.as_slice.result.now c.as_slice.ensures.value)
+    ∙ ap (map declared_name) (left_apart_are a ds) in
+    let left : variables_in_place (map fate_in_memory c.as_slice-2.result.now)
+    ++ map added_contents c.as_slice-3.result.now ≡ amended_variables a ds =
+    (λ i. variables_in_place (fates c.as_slice-2.result.now c.as_slice-2.ensures.value i)
+    ++ map added_contents (c.as_slice-3.ensures.value i))
     ∙ ap (λ l. l ++ a.added) (in_place_are a ds) in
     let used : HaveCodesOf c.in_ok-used.used (amended_variables a ds) =
     subst (HaveCodesOf c.in_ok-used.used) left c.in_ok-used.ensures in
@@ -47,6 +47,6 @@ returns c =
     ∙ ap (map declared_name) (removed_are a ds) in
     on_ok_weaker c.append_traces_remark.result
     (λ is. is ∙ ap (λ l. l ++ traces_remark c.as_slice-8.result.now) (c.in_ok-append_removed_remark.ensures
-    ∙ ap (λ l. l ++ removed_remark c.as_slice-7.result.now) c.in_ok-append_edited_remark.ensures)
-    ∙ (λ i. ((old ++ edited_remark (edited i)) ++ removed_remark (apart i)) ++ traces_remark (removed i)))
+    ∙ ap (λ l. l ++ removed_remark c.as_slice-7.result.now) c.in_ok-append_apart_remark.ensures)
+    ∙ (λ i. ((old ++ apart_remark (differing i)) ++ removed_remark (apart i)) ++ traces_remark (removed i)))
     c.append_traces_remark.ensures

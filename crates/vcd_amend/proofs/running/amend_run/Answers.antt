@@ -56,18 +56,21 @@ returns-in_err-edited-in-None-clause-remarked g c =
 
 pub returns-in_ok-edited-in-None-clause-remarked : goal.returns-in_ok-edited-in-None-clause-remarked
 returns-in_ok-edited-in-None-clause-remarked g c =
-    line_remarks_alone c.args.depth _ _ _ c.in_ok-edited-in-None.ensures.remarked
+    let e = c.in_ok-edited-in-None.edited in
+    with_output_remarks c.args.depth _ _ _ _ _ _ _ _ _ _ (declarations_of e.declared.items) (contents e.first)
+    e.origins.items e.cuts.items e.session.now e.refused c.in_ok-edited-in-None.ensures.remarked (λ file shows. shows)
+    c.in_ok-edited-in-None.ensures.edited c.remark_without_output.ensures
 
 pub returns-in_err-copy_amended-in-Some-clause-remarked : goal.returns-in_err-copy_amended-in-Some-clause-remarked
 returns-in_err-copy_amended-in-Some-clause-remarked g c =
     let e = c.in_ok-edited-in-Some.edited in
-    with_output_remarks c.args.depth _ _ _ _ _ _ _ _ _ (declarations_of e.declared.items) (contents e.first)
+    with_output_remarks c.args.depth _ _ _ _ _ _ _ _ _ _ (declarations_of e.declared.items) (contents e.first)
     e.origins.items e.cuts.items e.session.now e.refused c.in_ok-edited-in-Some.ensures.remarked (λ file shows. shows)
     c.in_ok-edited-in-Some.ensures.edited c.in_err-copy_amended-in-Some.ensures.remarked
 
 pub returns-in_ok-copy_amended-in-Some-clause-remarked : goal.returns-in_ok-copy_amended-in-Some-clause-remarked
 returns-in_ok-copy_amended-in-Some-clause-remarked g c =
     let e = c.in_ok-edited-in-Some.edited in
-    with_output_remarks c.args.depth _ _ _ _ _ _ _ _ _ (declarations_of e.declared.items) (contents e.first)
+    with_output_remarks c.args.depth _ _ _ _ _ _ _ _ _ _ (declarations_of e.declared.items) (contents e.first)
     e.origins.items e.cuts.items e.session.now e.refused c.in_ok-edited-in-Some.ensures.remarked (λ file shows. shows)
     c.in_ok-edited-in-Some.ensures.edited c.in_ok-copy_amended-in-Some.ensures.remarked
