@@ -10,9 +10,10 @@ import vcd_runs
 from vcd_files import Trouble, shown
 from vcd_messages import told_refusals
 
+OPERANDS = ["CAPTURE LINE..", "--script SCRIPT CAPTURE"]
 DECODERS, CHANGING = {b"uart", b"spi", b"i2c"}, {*vcd_runs.EDITS, b"undo", b"redo"}
-# What remarks on edited variables begin with. Others on the output speak of a file that these tools don't write.
-EDITED = "output: edited, "
+# Remarks on variables that differ, and on the capture. Others on the output speak of a file that is not written here.
+TOLD = re.compile("^(?:output: variables of one code|%s) .*" % vcd_runs.OF_CAPTURE, re.M)
 # Words that are hardly meant as the ticks of a bit.
 RATES = b"1200 2400 4800 9600 19200 31250 38400 57600 115200 230400 460800 921600".split()
 
@@ -27,7 +28,7 @@ def options_of(parser, words):
     """The options of a parser, with a capture and the lines of a script, as bytes."""
     add = parser.add_argument
     add("capture", metavar="CAPTURE", help="the capture, which stays as it is; - is standard input")
-    add("lines", metavar="LINE", nargs="*", default=[], help="lines of a script")
+    add("lines", metavar="LINE", nargs="*", default=[], help="lines of a script, such as 'i2c bench.scl bench.sda'")
     add("--script", metavar="SCRIPT", help="a file with the lines")
     options = parser.parse_intermixed_args(words)
     if options.script is not None and options.lines:
@@ -43,8 +44,8 @@ def outcome_of(tool, options, source):
     lines, commands = options.lines, list(map(vcd_runs.command_of, options.lines))
     edits = [number for number, command in enumerate(commands, 1) if command in CHANGING]
     again = [line for line in dict.fromkeys(lines[: max(edits, default=0)]) if vcd_runs.command_of(line) in DECODERS]
-    first, replies, remarks, edited = answers_of(tool, source, [*lines, b"list", *again], edits)
-    want_no_refusal(tool, lines, replies, first)
+    first, replies, remarks, others = answers(tool, source, [*lines, b"list", *again])
+    want_no_refusal(tool, lines, replies, first, source)
     decoded, at_end = [], dict(zip(again, replies[len(lines) + 1 :]))
     for number, (line, command, said, remarked) in enumerate(zip(lines, commands, replies, remarks), 1):
         for text in remarked + told_rate(line, said, first.timescale):
@@ -52,48 +53,34 @@ def outcome_of(tool, options, source):
         if command in DECODERS:
             annotations, is_edited = list(map(annotation_of, said)), at_end.get(line, said) != said
             decoded.append(Decoded(number, line, shown(command), annotations, remarked, is_edited))
-    for text in edited:
+    for text in others:
         vcd_files.tell(tool, text)
     return Outcome(edits, first, vcd_runs.listing_of(replies[len(lines)]), decoded)
 
 
-def answers_of(tool, source, asked, edits):
-    """What `answers` says. vcdedit-amend remarks on edited variables if it has an output. If it is not there, vcdedit
-    answers, such as ./first-look, and makes no remarks."""
-    name, words = "vcdedit-amend", ["-o", os.devnull] if edits else []
+def answers(tool, source, asked):
+    """What a capture holds before some lines, of each its replies and the remarks on it, and others.
+    Where there is no vcdedit-amend, vcdedit answers, such as ./first-look, and makes no remarks."""
+    name, replies, remarks = "vcdedit-amend", [[] for _ in asked], [[] for _ in asked]
     try:
         vcd_files.program(name)
     except Trouble as trouble:
         vcd_files.tell(tool, "no remarks on lines: " + trouble.lines[0])
-        return answers("vcdedit", source, asked, [])
-    try:
-        return answers(name, source, asked, words)
-    except Trouble as trouble:
-        # Only a written file can't have such a name.
-        if not words or not trouble.lines[0].startswith("NameOfSkipped"):
-            raise
-        vcd_files.tell(tool, "no remarks on edited variables of one code: " + trouble.lines[0])
-        return answers(name, source, asked, [])
-
-
-def answers(name, source, asked, words):
-    """What a capture holds before some lines, of each its replies and the remarks on it, and those on edited
-    variables."""
-    replies, remarks = [[] for _ in asked], [[] for _ in asked]
-    with vcd_runs.Run(source, asked, words, name=name) as run:
+        name = "vcdedit"
+    with vcd_runs.Run(source, asked, name=name) as run:
         first = run.listing()
         for place, reply in run.replies():
             replies[place].append(reply)
         for place, remark in run.remarks():
             remarks[place].append(remark)
-        edited = [remark for remark in vcd_runs.OUTPUT_REMARK.findall(run.told()) if remark.startswith(EDITED)]
-    return first, replies, remarks, edited
+        return first, replies, remarks, TOLD.findall(run.told())
 
 
-def want_no_refusal(tool, lines, replies, listing):
+def want_no_refusal(tool, lines, replies, listing, source):
     """Ends if a line is refused, with what that means."""
     found = [(number, vcd_runs.refusal_of(b"".join(said))) for number, said in enumerate(replies[: len(lines)], 1)]
-    told = told_refusals([(number, name) for number, name in found if name], lines, listing)
+    run = lambda words, **how: vcd_runs.Run(source, None, words, "vcdedit-amend", **how)
+    told = told_refusals([(number, name) for number, name in found if name], lines, listing, run)
     if told and lines[1:] and not any(b" " in line for line in lines):
         told.append("quote each line: %s CAPTURE 'uart top.rx 100 8 none 1'" % tool)
     if told:

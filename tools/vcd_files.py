@@ -27,7 +27,6 @@ import argparse
 import collections
 import contextlib
 import errno
-import fcntl
 import fractions
 import io
 import itertools
@@ -145,21 +144,6 @@ def is_protected(path):
     return os.path.exists(path) and not (os.access(path, os.W_OK) and os.stat(path).st_mode & 0o222)
 
 
-def has_writer(file):
-    """Whether a program has a file open for writing, which the system tells of the caller's files on a local disk, or
-    a tool has asked this before and not closed it yet."""
-    with contextlib.suppress(OSError):
-        # What another program opens meanwhile sends this signal, which is passed over.
-        fcntl.fcntl(file, fcntl.F_SETSIG, signal.SIGURG)
-        try:
-            fcntl.flock(file, fcntl.LOCK_EX | fcntl.LOCK_NB)
-            fcntl.fcntl(file, fcntl.F_SETLEASE, fcntl.F_RDLCK)
-        except BlockingIOError:
-            return True
-        fcntl.fcntl(file, fcntl.F_SETLEASE, fcntl.F_UNLCK)
-        return False
-
-
 def program(name="vcdedit"):
     """A program: what VCDEDIT, or VCDEDIT_AMEND, names, or is next to this tool, one folder above, or on the path."""
     here, crate = os.path.dirname(os.path.realpath(sys.argv[0])), name.replace("-", "_")
@@ -210,8 +194,8 @@ def variables_in(words, listing):
 
 
 def changes_in(words):
-    """(tick, code, value) of each change: the value in as few letters as the program writes it, or none of a real number
-    or a string. A comment is a change without a code. Declarations are passed over."""
+    """(tick, code, value) of each change: the value in as few letters as the program writes it, or none of a real
+    number or a string. A comment is a change without a code. Declarations are passed over."""
     tick = 0
     for word in words:
         first = word[0]
@@ -335,10 +319,11 @@ def window_of(options, timescale, end, what):
     return first, last
 
 
-def parser_of(name, usage, text, more):
-    """A parser with the options that each tool has."""
-    form = argparse.RawDescriptionHelpFormatter
-    parser = argparse.ArgumentParser(name, usage, text, more, formatter_class=form, allow_abbrev=False)
+def parser_of(name, text, *operands):
+    """A parser with the options that each tool has, and what stands behind these."""
+    usage = "\n       ".join("%s [OPTION..] %s" % (name, words) for words in operands)
+    more = "`man %s` says more of each option, and explains the statuses." % name
+    parser = argparse.ArgumentParser(name, usage, text, more, allow_abbrev=False)
     parser.add_argument("-V", "--version", action="version", version="%s %s" % (name, VERSION))
     return parser
 

@@ -1,10 +1,9 @@
 """What vcdedit's faults and refusals mean for a capture and a script at hand: the line itself, and what to do."""
 
 import collections
+import difflib
 import functools
-import heapq
 import itertools
-import operator
 import pathlib
 import re
 import subprocess
@@ -12,15 +11,17 @@ import subprocess
 import vcd_files
 from vcd_files import program, shortened, shown
 
-# Letters of a line that are shown, near names that are, and how often names are compared for a report to find those.
-LONGEST, NAMES_SHOWN, COMPARED = 100, 3, 1 << 17
+# Letters of a line that are shown, near names that are, and how often a report seeks those in the capture. Each time
+# all declarations are read twice, and so many bytes at most of what is found.
+LONGEST, NAMES_SHOWN, SOUGHT, READ = 100, 3, 2, 1 << 16
 
 # A fault or a refusal, what it means, what to do, and what the line of a fault is that of.
 Message = collections.namedtuple("Message", "kind name means remedy line")
 MESSAGE = re.compile(r"^(fault|refusal) (\w+): (.*)\n    (.*)\n(?:    (.*)\n)?", flags=re.M)
 HERE = pathlib.Path(__file__).resolve().parent
 # In the repository it is among the documents, and where the tools are installed beside them.
-TEXT = next(path for path in (HERE / "messages.txt", HERE.parent / "docs/messages.txt") if path.exists()).read_text("utf-8")
+PLACES = HERE / "messages.txt", HERE.parent / "docs/messages.txt"
+TEXT = next(path for path in PLACES if path.exists()).read_text("utf-8")
 MESSAGES = [Message(*found) for found in MESSAGE.findall(TEXT)]
 # What each means, and on a further line what to do.
 MEANINGS = {(one.kind, one.name): ("%s\n    %s" % (one.means, one.remedy)).replace("`", "") for one in MESSAGES}
@@ -91,16 +92,11 @@ def name_of(word, names):
     return names[int(position[1])] if position and int(position[1]) < len(names) else word
 
 
-def told_refusals(refused, lines, listing, is_over=lambda: False):
-    """Lines about the refused lines of a script, by number and refusal, for a capture with this listing. No more near
-    names are sought once it is over."""
-    names, sought = [signal.name for signal in listing.signals], {}
-
-    def near(word):
-        if word not in sought and len(sought) * len(names) < COMPARED and not is_over():
-            sought[word] = nearest(shown(word), map(shown, names))
-        return sought.get(word)
-
+def told_refusals(refused, lines, listing, run):
+    """Lines about the refused lines of a script, by number and refusal, for a capture with this listing. `run` gives a
+    run of vcdedit-amend on it, without a script, by more options."""
+    names, runs = [signal.name for signal in listing.signals], iter([run] * SOUGHT)
+    near = functools.lru_cache(None)(lambda word: near_names(word, names, runs))
     return shortened(refused, lambda one: told_refusal(*one, lines[one[0] - 1], names, listing.timescale, near))
 
 
@@ -111,7 +107,7 @@ def told_refusal(number, name, line, names, timescale, near):
         other = vcd_files.what_else(line) if number == 1 else None
         if other:
             return told + ["the script %s: %s" % tuple(other)]
-        told += ["is %s meant?" % usual for usual in usages() if likeness(usual, command.lower()) > 0.6][:1]
+        told += ["is %s meant?" % usual for usual in difflib.get_close_matches(command.lower(), usages(), 1)]
     if name == "WrongCount" and command in usages():
         told.append("usage: %s (%s)" % usages()[command])
     if name in NUMBERS:
@@ -143,28 +139,17 @@ def told_names(words, names, near):
     return told
 
 
-def nearest(name, names):
-    """The names that are most like a name in the last part, then in the scopes. One of them is like it."""
-    parts, like = parts_of(name), functools.lru_cache(None)(likeness)
-    rated = ((tuple(map(like, parts, parts_of(other))), other) for other in names)
-    near = heapq.nlargest(NAMES_SHOWN, (one for one in rated if max(one[0]) > 0.6), key=operator.itemgetter(0))
-    return [other for _, other in near]
-
-
-def parts_of(name):
-    """The last part of a name, or of a pattern, without its range, and the scopes, in lower case."""
-    scopes, _, last = name.lower().strip("*?").rpartition(".")
-    return last.partition("[")[0], scopes
-
-
-def likeness(one, other):
-    """How much of the longer text both have at the front or, behind that, at the end: from 0 to 1. A text is like one
-    that has it within."""
-    front = alike(one, other)
-    both = (front + alike(one[front:][::-1], other[front:][::-1])) / (max(len(one), len(other)) or 1)
-    return max(both, 0.61 * (len(one) > 1 and one in other))
-
-
-def alike(one, other):
-    """How many letters two texts have in common at the front."""
-    return sum(itertools.takewhile(bool, map(operator.eq, one, other)))
+def near_names(word, names, runs):
+    """Names that are near to a word, as vcdedit-amend finds them in the next run, or else have its last part within."""
+    # No name meets the empty pattern, so the run ends behind the declarations. It may lack the program, be interrupted,
+    # or not take the word, which may be too long or have a byte 0.
+    try:
+        with next(runs)([b"--keep=" + word, "--keep="], stdout=subprocess.DEVNULL) as run:
+            run.child.wait()
+            told = run.told(READ)
+    except (StopIteration, vcd_files.Trouble, OSError, ValueError):
+        told = ""
+    patterns, last = re.findall("^  near: (.*)\n", told, re.M), word.rpartition(b".")[2].strip(b"*?").lower()
+    near = [name for pattern in patterns for name in filter(vcd_files.matcher(pattern), names)]
+    near = near or [name for name in names if last in name.lower() and len(last) > 1]
+    return [shown(name) for name in dict.fromkeys(near)][:NAMES_SHOWN]

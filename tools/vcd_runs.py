@@ -18,10 +18,12 @@ INTERRUPTIONS = [signal.Signals["SIG" + name] for name in "INT TERM HUP QUIT ALR
 EDITS = b"rename remove invert shift cut deglitch force derive".split()
 # Commands with one reply. Other lines have another number; the line that is refused behind each ends its replies.
 ONE_REPLY, LAST = EDITS + b"undo redo depth value".split(), b"\n-"
-# Remarks of vcdedit-amend on a line, by its number, and on its output, on standard error.
-REMARK, OUTPUT_REMARK = re.compile(r"^line (\d+): (.*)\n", re.M), re.compile("^output: .*", re.M)
+# Remarks of vcdedit-amend on a line, by its number, and on its output and the capture, on standard error.
+REMARK, OF_CAPTURE = re.compile(r"^line (\d+): (.*)\n", re.M), "capture: the last line"
+FILE_REMARK = re.compile("^(?:output:|%s) .*" % OF_CAPTURE, re.M)
 # Lines there that are no error: remarks, what vcdedit-amend says of memory while it reads, and first-look of its build.
-NO_ERROR = re.compile(r"^(?:line \d+|output|vcdedit-amend: memory may run out|first-look): .*\n", re.M)
+NO_ERROR = re.compile(
+    r"^(?:line \d+:|output:|%s|vcdedit-amend: memory may run out:|first-look:) .*\n" % OF_CAPTURE, re.M)
 # What a run begins with so that it ends with the tool, even if that is killed.
 GUARD = ["setpriv", "--pdeathsig", "TERM"] if shutil.which("setpriv") else []
 
@@ -49,9 +51,9 @@ def listing_of(lines):
 class Run:
     """A run of a program on a capture that is open for bytes. It lists, and then answers lines of a script."""
 
-    def __init__(self, source, lines=(), words=(), written=(), name="vcdedit", path="/dev/stdin", **how):
-        """`words` are more options. `written` has the descriptor of a file for its output, if there is one. The program
-        opens the capture by a path, so that it can read it more than once. If `lines` are None, it has no script."""
+    def __init__(self, source, lines=(), words=(), name="vcdedit", path="/dev/stdin", **how):
+        """`words` are more options. The program opens the capture by a path, so that it can read it more than once. If
+        `lines` are None, it has no script."""
         self.source, self.lines, self.program = source, lines, program(name)
         # The numbers of the lines in the script below.
         self.numbers = list(itertools.accumulate((1 if has_one_reply(line) else 2 for line in lines or ()), initial=2))
@@ -60,12 +62,11 @@ class Run:
             script.flush()
             by_script = ["--script", "/dev/fd/%d" % script.fileno()] if lines is not None else []
             words = [*GUARD, self.program, "-i", path, *by_script, *words]
-            words += ["-o", "/dev/fd/%d" % written[0]] if written else []
             # Remarks may be longer than a pipe holds, which nobody reads while replies come.
             self.errors = open(os.memfd_create("errors"), "w+b")
             english = {**os.environ, "LC_ALL": "C"}
             how = {"stdout": subprocess.PIPE, "stderr": self.errors, "bufsize": 1 << 20, "env": english, **how}
-            self.child = subprocess.Popen(words, stdin=source, pass_fds=[script.fileno(), *written], **how)
+            self.child = subprocess.Popen(words, stdin=source, pass_fds=[script.fileno()], **how)
 
     def __enter__(self):
         return self
@@ -92,10 +93,10 @@ class Run:
                 yield place, reply[:-1]
         self.want_end()
 
-    def told(self):
-        """What the program has written to standard error."""
+    def told(self, most=-1):
+        """What the program has written to standard error, of which at most so many bytes."""
         self.errors.seek(0)
-        return self.errors.read().decode("utf-8", "replace")
+        return self.errors.read(most).decode("utf-8", "replace")
 
     def remarks(self):
         """(place of a line, remark) of each remark that the program has made on the lines."""

@@ -13,7 +13,7 @@ import signal
 import unittest.mock
 
 import vcd_runs
-from common import TOP, amend_of, load, module_of, run, store, store_program, toggling
+from common import TOP, load, module_of, run, store, store_program, toggling
 from vcd_files import VERSION
 
 APPLY = os.path.join(TOP, "tools/vcdedit-apply")
@@ -30,7 +30,7 @@ FILES = {
     **dict.fromkeys(["A", "B", "B.orig", "fixed", "kept/A", "sub/p", ODD, NO_TEXT], LINE),
     "packed": gzip.compress(LINE.encode()), "faulty": "#0\n", "analog": LINE + "A0: -10 V\n", "torn": LINE + "#9\n",
     "some": "value tb.rx 5\nundo\n" + SCRIPT, "named": "rename tb.rx volts\n", "vast": "#\n" * 600000,
-    "asks": "# a comment\n\n  changes tb.rx \nvalue tb.rx 5\n",
+    "wild": "value %s 3\nvalue x\0y 3\n" % ("x" * 2**17), "asks": "# a comment\n\n  changes tb.rx \nvalue tb.rx 5\n",
 }
 LINKS = {"link": "sub/p", "lost": "nowhere", "kept/B": "../B", "A.old": "A", "to_orig": "B.orig"}
 BOTH, BOTH_WRITTEN = {"A": DONE, "B": DONE}, ["A: written: 1 ok", "B: written: 1 ok", "2 written, 0 not, status 0"]
@@ -45,6 +45,8 @@ RUNS = [
     ("script faulty A --jobs 4", 3, ["1 written, 1 not, status 3", "A: written: 1 ok", GLOB[1]], {"A": DONE}, "line 1"),
     ("some A", 1, ["A:1: 0", "A: as it was: 1 line refused"], {}, "A: some line 2: undo: NothingToUndo\n"),
     ("some A --keep-going", 1, ["A:1: 0", "A: written: 1 ok, 1 line refused"], {"A": DONE}, "A: some line 2: undo: "),
+    ("wild A", 1, ["A: as it was: 2 lines refused"], {}, "A: wild line 1: value xx",
+     r"line 2: value x\x00y 3: NoSuchName"),
     # A glob is named again: no capture is edited twice, and no backup.
     ("script A B faulty to_orig --backup .orig --dry-run", 4,
      ["A: would be written: 1 ok", *GLOB, "1 would be written, 3 not, status 4"], {}, "faulty: "),
@@ -95,8 +97,10 @@ STAYS = {
 REFUSED = [
     ("value tb.q 3", "value tb.q 3: NoSuchName\n", "tb.q: near names are tb.q[3:0]"),
     ("remove tb.rx\ninvert tb.rx", "line 2: invert tb.rx", "renamed or removed by a line above"),
-    ("value TB.RX 3", "tb.rx"), ("invert @7", "the capture has 2 signals"), ("Invert tb.rx", "is invert meant?"),
-    ("value tb.rx", "usage: value NAME TICK"), ("derive both and tb.rx", "usage: derive WORD not A"),
+    ("value TB.RX 3", "tb.rx"), ("value *[3:* 3", "near names are tb.q[3:0]"),
+    ("value tb.volt 3", "near names are tb.rx, tb.q[3:0]\n"), ("invert @7", "the capture has 2 signals"),
+    ("Invert tb.rx", "is invert meant?"), ("value tb.rx", "usage: value NAME TICK"),
+    ("derive both and tb.rx", "usage: derive WORD not A"),
     ("\N{BYTE ORDER MARK}invert tb.rx", "byte order mark"), ("cut 60 200", "200: BadRange", "TO is past the end"),
 ]
 # Where a capture and the words are like a pattern, this does something first.
@@ -126,13 +130,13 @@ FAILING = [
 class Folder:
     """A folder with files, and runs of the tool in it. In those that are like `of` vcdedit-amend first does `act`."""
 
-    def __init__(self, program, folder, files=FILES, of="", act=""):
-        self.folder, amend = folder, amend_of(program)
+    def __init__(self, name, files=FILES, of="", act=""):
+        self.folder, self.environment = os.path.abspath(name), dict(os.environ)
         if act:
-            amend = store_program(folder + ".amend", text=STAND_IN % (of, act, amend))
-        self.environment = {**os.environ, "VCDEDIT": program, "VCDEDIT_AMEND": amend}
+            act = STAND_IN % (of, act, os.environ["VCDEDIT_AMEND"])
+            self.environment["VCDEDIT_AMEND"] = store_program(self.folder + ".amend", text=act)
         for name, text in {"script": SCRIPT, **files}.items():
-            os.chmod(store(folder, name, text=text), MODE)
+            os.chmod(store(self.folder, name, text=text), MODE)
 
     def files(self):
         """{path: text and mode} of all regular files."""
@@ -158,13 +162,13 @@ class Folder:
         return "%r: %s" % (words, (ended, lines, errors, list(changes))), right
 
 
-def runs(program, folder):
+def runs():
     stays = [("script " + words + dry, 4, ["%s: %s" % (words.split()[0], reason)], {})
              for words, reason in STAYS.items() for dry in ("", " --dry-run")]
     refused = [("/dev/stdin A << .\n%s\n." % lines, 1, ["A: as it was: 1 line refused"], {}, *told)
                for lines, *told in REFUSED]
     for number, row in enumerate([*RUNS, *stays, *refused]):
-        place = Folder(program, "%s/%d" % (folder, number))
+        place = Folder("runs/%d" % number)
         for name, target in LINKS.items():
             os.symlink(target, os.path.join(place.folder, name))
         for name in ("fixed", "kept/A"):
@@ -174,44 +178,56 @@ def runs(program, folder):
         yield place.check(*row)
 
 
-def fails(program, folder):
+def fails():
     """Whatever ends a run, its capture stays and has one line, no other file is left, and the others are written."""
     files, both = dict.fromkeys("ABC", LINE), {"A": DONE, "A.orig": LINE, "C": DONE, "C.orig": LINE}
     for number, (of, act, status, reason, *told) in enumerate(FAILING):
-        place = Folder(program, "%s/%d" % (folder, number), files, of, act)
+        place = Folder("fails/%d" % number, files, of, act)
         lines = ["A: written: 1 ok", "B: as it was: " + reason, "C: written: 1 ok"]
         lines.append("2 written, 1 not, status %d" % status)
         told += ["vcdedit-apply: to go on, name only these: B\n"] * (status > 3)
         yield place.check("script A B C --backup .orig", status, lines, both, *told)
-    place = Folder(program, folder + "/done", files, WRITES, "cp -p script new; mv new B; kill -TERM $$")
+    place = Folder("fails/done", files, WRITES, "cp -p script new; mv new B; kill -TERM $$")
     yield place.check("script A B", 0, BOTH_WRITTEN, {"A": DONE, "B": SCRIPT})
 
 
-def remarks(program, folder):
+def remarks():
     """What is remarked on lines and on the output is told of each capture, once."""
     output = "output: removed, but another variable of the same code stays: top.secret"
     act = r"printf 'vcdedit-amend: memory may run out: 1 GB\nline 4: seen\n' >&2; "
     act += "case $* in *--quiet*) ;; *-o*) echo '%s' >&2 ;; esac" % output
-    place = Folder(program, folder, {"A": LINE, "script": "bad\n" + SCRIPT}, ANY, act)
+    place = Folder("remarks", {"A": LINE, "script": "bad\n" + SCRIPT}, ANY, act)
     told = "A: script line 2: seen\n", "A: script line 1: bad: UnknownCommand\n", "A: %s\n" % output
     yield place.check("script A --dry-run", 1, ["A: as it was: 1 line refused"], {}, *told[:2])
     for words, what, texts in ((" --dry-run", "would be written", {}), ("", "written", {"A": DONE})):
         lines = ["A: %s: 1 ok, 1 line refused" % what]
         yield place.check("script A --keep-going" + words, 1, lines, texts, *told)
     # More than a pipe holds, before the first reply.
-    place = Folder(program, folder + "/many", {"A": LINE, "script": "deglitch tb.rx 3\n" * 2000 + "bad\n"})
+    place = Folder("remarks/many", {"A": LINE, "script": "deglitch tb.rx 3\n" * 2000 + "bad\n"})
     status, _, errors = place.run("script A --keep-going")
     numbers = [line.split()[3] for line in errors.splitlines() if "pulses removed" in line]
     yield "many remarks", (status, numbers) == (1, ["%d:" % number for number in range(1, 2001)])
 
 
-def interrupted(program, folder):
+def many_names():
+    """Of many unknown words, in a capture with as many signals as there can be, two are sought, in little time."""
+    declared = "".join("$var wire 1 ! top.u%d.stage%d_q $end\n" % (place % 50, place) for place in range(65536))
+    lines = "".join("derive a and top.u7.stge60007_q top.u7.stge%d_q\n" % number for number in range(20))
+    files = {"A": declared + "$enddefinitions $end #0 1! #5\n", "script": lines}
+    place = Folder("many_names", files, ANY, "ulimit -S -t unlimited; echo >> runs")
+    limit = lambda: resource.setrlimit(resource.RLIMIT_CPU, (4, resource.RLIM_INFINITY))
+    status, _, errors = place.run("script A", preexec_fn=limit)
+    found = status, errors.count(": near names are top.u7.stage60007_q, "), load("many_names/runs")
+    yield "%s: %s" % (found, errors[:400]), found == (1, 10, b"\n\n\n")
+
+
+def interrupted():
     """The run that writes the second capture sends the tool a signal. Both end at once, even if the tool is killed."""
     lines = ["A: written: 1 ok", "B: as it was: interrupted", "C: as it was: interrupted"]
     for number in (signal.Signals["SIG" + name] for name in "INT TERM HUP QUIT ALRM USR1 USR2 XCPU KILL".split()):
         # The check waits as long as the run has the tool's standard output.
         act = "exec 5> .B.vcdedit 6> /proc/$PPID/fd/1; kill -%d $PPID; exec sleep 20" % number
-        place = Folder(program, "%s/%d" % (folder, number), dict.fromkeys("ABC", LINE), WRITES, act)
+        place = Folder("interrupted/%d" % number, dict.fromkeys("ABC", LINE), WRITES, act)
         if number == signal.SIGKILL:
             yield place.check("script A B C", -number, lines[:1], {"A": DONE, ".B.vcdedit": ""}, timeout=10)
             continue
@@ -220,24 +236,27 @@ def interrupted(program, folder):
         how = {"timeout": 10, "preexec_fn": lambda: signal.signal(number, signal.SIG_DFL)}
         told = "vcdedit-apply: to go on, name only these: B C\n"
         yield place.check("script A B C", 128 + number, ends, {"A": DONE}, told, **how)
+    # While near names are sought.
+    place = Folder("seeks", {"A": LINE, "script": "value r 3\n"}, "*--keep=*", "kill $PPID; exec sleep 20")
+    yield place.check("script A", 143, ["A: as it was: 1 line refused"], {}, "value r 3: NoSuchName\n", timeout=5)
 
 
-def alone(program, folder):
+def alone():
     """Of two runs at once on one file no edit is lost that was shown as written."""
-    place, seen = Folder(program, folder, {"to_x": "rename x x2\n", "to_y": "rename y y2\n"}), set()
+    place, seen = Folder("alone", {"to_x": "rename x x2\n", "to_y": "rename y y2\n"}), set()
     declared = "".join("$var wire 1 ! %s $end\n" % name for name in "xy")
     for _ in range(8):
-        store(folder, "A", text=toggling(5000, declared))
+        store("alone/A", text=toggling(5000, declared))
         place.run('to_x A > x & "$0" to_y A > y; wait')
-        are_written = [load(folder, name) == b"A: written: 1 ok\n" for name in "xy"]
-        are_there = [b" %s2 " % name in load(folder, "A") for name in (b"x", b"y")]
+        are_written = [load("alone", name) == b"A: written: 1 ok\n" for name in "xy"]
+        are_there = [b" %s2 " % name in load("alone/A") for name in (b"x", b"y")]
         seen.add((are_written == are_there, any(are_written)))
     yield "two runs at once: %s" % seen, seen == {(True, True)}
 
 
-def without_memory(program, folder):
+def without_memory():
     """Whatever memory the tool has, each capture has one line, or none is begun. It is whole either way."""
-    place = Folder(program, folder, {"script": "rename rx tx\n"}, ANY, "ulimit -S -v unlimited")
+    place = Folder("without_memory", {"script": "rename rx tx\n"}, ANY, "ulimit -S -v unlimited")
     old, seen = toggling(2000, "$var wire 1 ! rx $end\n"), set()
 
     # A limit is in quarters of a MiB: what lies between a start and a run may be less than one.
@@ -249,10 +268,10 @@ def without_memory(program, folder):
     least = next(quarters for quarters in range(40, 360) if limited(quarters, "--version")[0] == 0)
     for more, jobs in itertools.product((0, 1, 2, 4, 8, 16, 240), "13"):
         for name in "ABC":
-            store(folder, name, text=old)
+            store("without_memory", name, text=old)
         status, shown, errors = limited(least + more, "script A B C --jobs " + jobs)
         seen.add(status)
-        texts = {name: load(folder, name).decode() for name in "ABC"}
+        texts = {name: load("without_memory", name).decode() for name in "ABC"}
         ends = sorted(line for line in shown if line[1] == ":")
         new = {line[0]: old.replace(" rx ", " tx ") for line in ends if line[1:] == ": written: 1 ok"}
         right = texts == {**dict.fromkeys("ABC", old), **new} and [line[0] for line in ends] in ([], [*"ABC"])
@@ -260,27 +279,26 @@ def without_memory(program, folder):
     yield "statuses without memory: %s" % seen, seen == {0, 5}
 
 
-def ends(program, folder):
+def ends():
     """What ends a run, and can't from outside: a folder that is closed to all, no memory, or what nobody foresaw."""
-    place, patch = Folder(program, folder, {}), unittest.mock.patch
-    tool, path = module_of("tools/vcdedit-apply"), os.path.join(folder, "A")
+    tool, path, patch = module_of("tools/vcdedit-apply"), os.path.abspath("A"), unittest.mock.patch
     for change, ended, told in (
         (patch("os.access", return_value=False), (4, False),
-         "as it was: %s: no permission to write in this folder" % folder),
+         "as it was: %s: no permission to write in this folder" % os.getcwd()),
         (patch.object(vcd_runs.Run, "listing", side_effect=MemoryError), (5, False), "as it was: out of memory"),
         (patch.object(vcd_runs.Run, "listing", side_effect=KeyError("e")), (4, False), "as it was: KeyError: 'e'"),
         # When all is done.
         (patch.object(tool, "tell_output", side_effect=MemoryError), (0, True), "written: 1 ok"),
     ):
         store(path, text=LINE)
-        work = tool.Work(tool.options_of([folder + "/script", path]))
+        work = tool.Work(tool.options_of([store("script", text=SCRIPT), path]))
         work.show = unittest.mock.Mock()
-        with patch.dict(os.environ, place.environment), change:
+        with change:
             found = work.carry_out(path), work.show.call_args_list, load(path) != LINE.encode()
         yield "ends: %s" % (found,), found == (ended, [unittest.mock.call("%s: %s" % (path, told))], ended[1])
 
 
-def check(program, folder):
-    for part in runs, fails, remarks, interrupted, alone, without_memory, ends:
-        for name, right in part(program, os.path.join(folder, part.__name__)):
+def check():
+    for part in runs, fails, remarks, many_names, interrupted, alone, without_memory, ends:
+        for name, right in part():
             yield "%s: %s" % (part.__name__, name), right

@@ -9,7 +9,7 @@ import random
 import re
 import tempfile
 
-from common import TOP, amend_of, load, module_of, run, store, store_program
+from common import TOP, load, module_of, run, store, store_program
 from random_captures import Capture, Chance
 
 TOOL = os.path.join(TOP, "tools/vcdedit-compare")
@@ -122,22 +122,17 @@ def text(declared, changes):
     return scale + "".join(declarations) + "$enddefinitions $end\n" + changes.replace(" ", "\n") + "\n"
 
 
-def check(program, folder):
-    def compare(*words, amend=amend_of(program), given=None, before=()):
-        return run([*before, TOOL, *words], cwd=folder, env={**os.environ, "VCDEDIT_AMEND": amend}, input=given)
-
-    yield from random_cases()
-    yield from one_form(program, folder, compare)
-    yield from rows(folder, compare)
-    yield from command_lines(folder, compare)
+def compare(line):
+    """A run of the tool, by a line of a shell, or by what stands behind its name."""
+    return run(["sh", "-c", line if "$0" in line else '"$0" ' + line, TOOL])
 
 
-def rows(folder, compare):
+def rows():
     """Each row, and without options as many lines in the other order."""
     for words, *captures, status, told in ROWS:
         for path, capture in zip("AB", captures):
-            store(folder, path, text=capture if isinstance(capture, bytes) else text(*capture))
-        found, lines = compare(*words.split(), "A", "B"), told.split("|")
+            store(path, text=capture if isinstance(capture, bytes) else text(*capture))
+        found, lines = compare(words + " A B"), told.split("|")
         last = "" if "the same" in told else LAST % (r"\d+" if words else len(lines))
         if status == 2:
             is_told = found[1] == "" and told in found[2]
@@ -145,34 +140,33 @@ def rows(folder, compare):
             is_told = found[2] == "" and re.fullmatch(re.escape("\n".join(lines)) + "\n" + last, found[1])
         yield "%s: %s" % (words or captures, found), found[0] == status and is_told
         if not words and status < 2:
-            other = compare("B", "A")
+            other = compare("B A")
             are_alike = (other[0], other[1].count("\n")) == (status, found[1].count("\n"))
             yield "the other order of %s: %s" % (captures, other), are_alike
 
 
-def command_lines(folder, compare):
+def command_lines():
     """Names that begin with `-`, standard input, words that are none of it, and what is no program."""
     for path in ("A", "--strict"):
-        store(folder, "./" + path, text=text(*PLAIN))
-    full, limited = (["sh", "-c", line, "sh"] for line in ('exec "$@" > /dev/full', 'ulimit -f 1 && exec "$@"'))
-    none_listed = store_program(folder, "none_listed", text=NONE_LISTED)
-    for words in ("A -", "- ./--strict", "--strict -- --strict A", "A A --strict"):
-        yield words, compare(*words.split(), given=text(*PLAIN)) == (0, SAME + "\n", "")
-    for words, how, status, told in (
-        ("A", {}, 2, "error: the following arguments are required: B"),
-        ("A A --frob", {}, 2, "error: unrecognized arguments: --frob"),
-        ("A none", {}, 2, "none: No such file or directory"),
-        ("A A", {"before": full}, 4, "standard output: No space left on device"),
-        ("- A", {"before": limited}, 2, "- or its copy in %s: File too large" % tempfile.gettempdir()),
-        ("A A", {"amend": "/bin/true"}, 2, "A: /bin/true is no vcdedit"),
-        ("A A", {"amend": none_listed}, 2, "A: its variables are not those that vcdedit lists"),
+        store("./" + path, text=text(*PLAIN) + " " * 9999)
+    store_program("none_listed", text=NONE_LISTED)
+    for line in ("A - < A", "- ./--strict < A", "--strict -- --strict A", "A A --strict"):
+        yield line, compare(line) == (0, SAME + "\n", "")
+    for line, status, told in (
+        ("A", 2, "error: the following arguments are required: B"),
+        ("A A --frob", 2, "error: unrecognized arguments: --frob"),
+        ("A none", 2, "none: No such file or directory"),
+        ("A A > /dev/full", 4, "standard output: No space left on device"),
+        ('ulimit -f 1; "$0" - A < A', 2, "- or its copy in %s: File too large" % tempfile.gettempdir()),
+        ('VCDEDIT_AMEND=/bin/true "$0" A A', 2, "A: /bin/true is no vcdedit"),
+        ('VCDEDIT_AMEND=./none_listed "$0" A A', 2, "A: its variables are not those that vcdedit lists"),
     ):
-        found = compare(*words.split(), given=text(*PLAIN) + " " * 9999, **how)
+        found = compare(line)
         are_told = found[2].endswith("vcdedit-compare: %s\n" % told)
-        yield "%s: %s" % (words, found), found[:2] == (status, "") and are_told
+        yield "%s: %s" % (line, found), found[:2] == (status, "") and are_told
 
 
-def one_form(program, folder, compare):
+def one_form():
     """A capture is the same as what vcdedit writes of it, however its items are spelled."""
     captures = [Capture(Chance(number)) for number in range(60)]
     cases = [(capture.text, ["--from=%d" % (capture.end // 3), "--to=%d" % (capture.end // 2), "--within=1"][: k % 4])
@@ -180,9 +174,9 @@ def one_form(program, folder, compare):
     paths = sorted(path for pattern in CAPTURES for path in glob.glob(os.path.join(TOP, pattern)))
     yield "captures to read", len(paths) > 50
     for capture, words in cases + [(load(path), []) for path in paths]:
-        store(folder, "A", text=capture)
-        if run([program, "-i", "A", "--script", "/dev/null", "-o", "B"], cwd=folder)[0] == 0:
-            found = compare(*words, "A", "B")
+        store("A", text=capture)
+        if run([os.environ["VCDEDIT"], "-i", "A", "--script", "/dev/null", "-o", "B"])[0] == 0:
+            found = compare(" ".join([*words, "A B"]))
             yield "the one form of %r: %s" % (capture[:99], found), found[0] == 0
 
 
@@ -241,3 +235,8 @@ def random_cases():
         found, wanted = (pair.times, pair.noted, pair.shortest), exact(*sides, within, first, last)
         wrong += [(sides, within, first, last, found, wanted)] * (found != wanted)
     yield "random cases: %s" % wrong[:1], not wrong
+
+
+def check():
+    for part in random_cases, one_form, rows, command_lines:
+        yield from part()

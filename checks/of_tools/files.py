@@ -1,4 +1,4 @@
-"""What the tools share: how they start and end, what is left out, times, names and files that are no plain VCD."""
+"""What the tools share: how they start and end, what is left out, times, patterns and files that are no plain VCD."""
 
 import io
 import itertools
@@ -7,13 +7,11 @@ import pty
 import resource
 import signal
 import subprocess
-import time
 import unittest.mock
 
 import vcd_files
-import vcd_messages
 import vcd_runs
-from common import TOP, amend_of, run, store, store_program, toggling
+from common import TOP, run, store, store_program, toggling
 
 # A text, a timescale, and the tick, or None where it is refused.
 TIMES = [
@@ -46,15 +44,6 @@ LOST = [
     (b"0! 1! $comment", {"change": 1, "comment": 1}),
     (b"0! $dumpoff 1! $end 0!", {"change": 2}),
 ]
-# A name, names, and which of them are near.
-NEAR = [
-    ("tb.dut.data", ["tb.data[7:0]", "top.dut.rx", "tb.dut.dat", "x.y", "tb.dut.DATA[3:0]"],
-     ["tb.dut.DATA[3:0]", "tb.data[7:0]", "tb.dut.dat"]),
-    ("bench.rx", ["bench.scl", "a.b", "bench.sda"], ["bench.scl", "bench.sda"]),
-    ("clkk", ["a.clk", "a.b"], ["a.clk"]),
-    ("*TAGE1*", ["a.b", "a.u.data", "a.u.stage1_q"], ["a.u.stage1_q"]),
-    ("rx", ["a.b", "tb.uart_rx_i"], ["tb.uart_rx_i"]), ("q", ["a.b"], []),
-]
 TOOLS = ["vcdedit-apply", "vcdedit-compare", "vcdedit-table", "vcdedit-view"]
 # What a module does while a tool starts, the status, and the end of what is told.
 STARTS = [
@@ -83,28 +72,28 @@ def refused(call, *words):
         return None
 
 
-def starts(folder):
+def starts():
     """Each tool, where it is interrupted or lacks memory while it starts. A module of Python does that here."""
-    environment = {**os.environ, "PYTHONPATH": folder}
+    environment = {**os.environ, "PYTHONPATH": os.getcwd()}
     default = lambda: signal.signal(signal.SIGINT, signal.SIG_DFL)
     for tool, (text, status, told) in itertools.product(TOOLS, STARTS):
-        store(folder, "fractions.py", text=text)
+        store("fractions.py", text=text)
         found = run([os.path.join(TOP, "tools", tool), "--version"], env=environment, preexec_fn=default)
         right = found[0] == status and found[2].endswith(told) and ("Traceback" in found[2]) == bool(told)
         yield "%s, where a start ends with %s: %s" % (tool, text, found), right
-    os.remove(os.path.join(folder, "fractions.py"))
+    os.remove("fractions.py")
 
 
-def without_memory(program, folder):
+def without_memory():
     """Each tool in ever less memory, and with programs in ever less. It ends as in ample memory, or with status 5."""
-    path, line = store(folder, "long", text=toggling(5000)), "uart x 2 8 none 1"
-    words = {"apply": ["--dry-run", store(folder, "script", text="invert x\n"), path], "table": [path, line],
-             "compare": ["--strict", path, path], "view": ["-o", os.path.join(folder, "v.vcd"), path, line]}
-    environment = {**os.environ, "TMPDIR": folder}
+    path, line = store("long", text=toggling(5000)), "uart x 2 8 none 1"
+    words = {"apply": ["--dry-run", store("script", text="invert x\n"), path], "table": [path, line],
+             "compare": ["--strict", path, path], "view": ["-o", "v.vcd", path, line]}
+    environment = {**os.environ, "TMPDIR": os.getcwd()}
 
     def limited(tool, megabytes, kilobytes, *words):
-        for name, path in (("VCDEDIT", program), ("VCDEDIT_AMEND", amend_of(program))):
-            environment[name] = store_program(folder, name, text=LIMITED % (kilobytes, path))
+        for name in ("VCDEDIT", "VCDEDIT_AMEND"):
+            environment[name] = store_program("./" + name, text=LIMITED % (kilobytes, os.environ[name]))
         limit = lambda: resource.setrlimit(resource.RLIMIT_AS, (megabytes << 20, resource.RLIM_INFINITY))
         return run([os.path.join(TOP, "tools/vcdedit-" + tool), *words], env=environment, preexec_fn=limit)
 
@@ -118,17 +107,17 @@ def without_memory(program, folder):
         yield "statuses of %s without memory: %s" % (tool, found), found == {(0, False), (5, False)}
 
 
-def on_a_terminal(program, folder):
+def on_a_terminal():
     """Names can't do there what escape sequences do; elsewhere they are the bytes of the file, in each locale."""
     name = b"\x1b[2K\xc2\x9b1A\xe2\x82\xac\xff"
     for place, letter in enumerate("ab"):
-        store(folder, letter, text=b"$var wire 1 ! %s $end $enddefinitions $end #0 %d! #5" % (name, place))
-    store(folder, "script", text="list\n")
-    environment = {**os.environ, "VCDEDIT_AMEND": amend_of(program), "PYTHONUTF8": "0", "PYTHONCOERCECLOCALE": "0"}
+        store(letter, text=b"$var wire 1 ! %s $end $enddefinitions $end #0 %d! #5" % (name, place))
+    store("script", text="list\n")
+    environment = {**os.environ, "PYTHONUTF8": "0", "PYTHONCOERCECLOCALE": "0"}
     tools = ["vcdedit-compare", "a", "b"], ["vcdedit-apply", "script", "a"]
     for locale, (tool, *words) in itertools.product(("C.UTF-8", "C"), tools):
         words = [os.path.join(TOP, "tools", tool), *words]
-        how = {"cwd": folder, "env": {**environment, "LC_ALL": locale}}
+        how = {"env": {**environment, "LC_ALL": locale}}
         yield "names in a file, %s" % locale, name in run(words, text=False, **how)[1]
         terminal, side = pty.openpty()
         subprocess.run(words, stdout=side, stderr=side, **how)
@@ -137,70 +126,49 @@ def on_a_terminal(program, folder):
         yield "names on a terminal, %s: %s" % (locale, found), right
 
 
-def near_names():
-    for name, names, wanted in NEAR:
-        yield "near %s" % name, vcd_messages.nearest(name, names) == wanted
-    names = [b"top.u%d.stage%d_q[7:0]" % (place % 50, place) for place in range(65536)]
-    listing = vcd_runs.Listing("none", 9, 0, [vcd_runs.Signal(8, b"wire", name) for name in names])
-    lines = [b"derive a and top.u7.stge60007_q top.u7.stge%d_q" % number for number in range(20)]
-    refused = [(number, "NoSuchName") for number in range(1, 21)]
-    for most, is_over in ((2, False), (0, True)):
-        began, told = time.process_time(), vcd_messages.told_refusals(refused, lines, listing, lambda: is_over)
-        near, seconds = {line for line in told if "near names" in line}, time.process_time() - began
-        is_found = any("near names are top.u7.stage60007_q[7:0]" in line for line in near)
-        right = (len(near), is_found) == (most, not is_over) and seconds < 4
-        yield "near names in %.1f seconds: %s" % (seconds, near), right
-
-
-def not_built(folder):
+def not_built():
     """A tree without a program that is built, and with one."""
-    launcher, argv = store_program(folder, "tree/vcdedit", text=""), [os.path.join(folder, "tree/tools/some")]
+    launcher, argv = store_program(os.getcwd(), "tree/vcdedit", text=""), [os.path.abspath("tree/tools/some")]
     with unittest.mock.patch("sys.argv", argv), unittest.mock.patch.dict(os.environ, VCDEDIT=""):
         for name, found in (("crates/none", None), ("crates/vcdedit/out/vcdedit", launcher)):
-            store(folder, "tree", name, text="")
+            store("tree", name, text="")
             yield "a tree with %s" % name, refused(vcd_files.program) == found
 
 
-def long_ones(program, folder):
+def long_ones():
     """A script of nearly a MiB, and a word that is longer than many reads."""
     lines = [b"invert r"] * 116000
-    path = store(folder, "c", text="$var wire 1 ! r $end $enddefinitions $end #0 0! #5")
-    with open(path, "rb") as source, unittest.mock.patch.dict(os.environ, VCDEDIT=program):
-        with vcd_runs.Run(source, lines) as one:
-            one.listing()
-            found = list(one.replies())
+    path = store("c", text="$var wire 1 ! r $end $enddefinitions $end #0 0! #5")
+    with open(path, "rb") as source, vcd_runs.Run(source, lines) as one:
+        one.listing()
+        found = list(one.replies())
     yield "a script of %d bytes" % (9 * len(lines)), found == [(place, b"ok") for place in range(len(lines))]
-    with open(store(folder, "word", text=b"x" * (200 * vcd_files.CHUNK) + b" y"), "rb") as file:
+    with open(store("word", text=b"x" * (200 * vcd_files.CHUNK) + b" y"), "rb") as file:
         reads = unittest.mock.Mock(wraps=file)
         words = list(vcd_files.words_of(reads))
     yield "a long word", [len(word) for word in words] == [200 * vcd_files.CHUNK, 1] and reads.read.call_count < 20
 
 
-def dialect(amend, folder):
+def dialect():
     """A time and a pattern mean in the tools what they do in vcdedit-amend."""
     for text, timescale, tick in TIMES:
         time, scale = refused(vcd_files.time_of, text), "$timescale %s $end " % timescale * (timescale != "none")
-        capture = store(folder, "c", text=scale + "$var wire 1 ! a $end $enddefinitions $end #%d" % (2**63 - 1))
-        status, part, _ = run([amend, capture, "--from", text])
+        capture = store("c", text=scale + "$var wire 1 ! a $end $enddefinitions $end #%d" % (2**63 - 1))
+        status, part, _ = run([os.environ["VCDEDIT_AMEND"], capture, "--from", text])
         wanted = 2 if not time else 1 if tick is None or tick >= 2**63 else 0
         are_one = (status, "ticks %s to" % tick in part) == (wanted, wanted == 0)
         found = time and refused(vcd_files.ticks_of, time, timescale)
         yield "the time %s at %s: %s, %d" % (text, timescale, found, status), are_one and found == tick
     for pattern, name, meant in MATCHES:
-        capture = store(folder, "c", text=b"$var wire 1 ! %s $end $enddefinitions $end #5" % name)
-        in_program = run([amend, capture, "--keep", pattern, "-o", "/dev/null"])[0] == 0
+        capture = store("c", text=b"$var wire 1 ! %s $end $enddefinitions $end #5" % name)
+        in_program = run([os.environ["VCDEDIT_AMEND"], capture, "--keep", pattern, "-o", "/dev/null"])[0] == 0
         found = vcd_files.matcher(pattern)(name) is not None, in_program
         yield "the pattern %s: %s" % (pattern, found), found == (meant, meant)
 
 
-def check(program, folder):
-    yield from starts(folder)
-    yield from without_memory(program, folder)
-    yield from on_a_terminal(program, folder)
-    yield from near_names()
-    yield from not_built(folder)
-    yield from long_ones(program, folder)
-    yield from dialect(amend_of(program), folder)
+def check():
+    for part in starts, without_memory, on_a_terminal, not_built, long_ones, dialect:
+        yield from part()
     for text, wanted in LOST:
         losses = vcd_files.losses_of(vcd_files.words_of(io.BytesIO(text)), {b"!": "a", b'"': "b"})
         found = {kind.rstrip("s"): int(count) for count, kind, *_ in (what.split(" ") for what, _ in losses)}

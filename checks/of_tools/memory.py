@@ -5,7 +5,7 @@ import re
 import resource
 import sys
 
-from common import TOP, amend_of, module_of, run, store, text_at
+from common import TOP, module_of, run, store, text_at
 
 BYTES_OF_CHANGE = 272
 BYTES_WHILE_READ = 32
@@ -23,9 +23,9 @@ subprocess.run(["sh", "-c", '"$@" > /dev/null; exit 0', "sh", *sys.argv[1:]])
 print(resource.getrusage(resource.RUSAGE_CHILDREN).ru_maxrss)"""
 
 
-def peak(program, capture, *words):
+def peak(capture):
     """The most memory of a run, in bytes. A shell starts it, so that the memory of this process is not counted."""
-    words = [sys.executable, "-S", "-c", PEAK, program, "-i", capture, *words]
+    words = [sys.executable, "-S", "-c", PEAK, os.environ["VCDEDIT"], "-i", capture, "--script", "/dev/null"]
     return int(run(words, env={**os.environ, "GLIBC_TUNABLES": ""})[1]) * 1024
 
 
@@ -40,13 +40,13 @@ def changes_in(path):
     return len(re.findall(r"(?<!\S)(?:[01xz]\S+|b\S+ \S+)", text))
 
 
-def table(program, folder, module):
+def table(module):
     """Each row of the cookbook's table, by a smaller capture of its kind."""
     rows = re.findall(ROW, text_at("docs/COOKBOOK.md"), flags=re.M)
     yield "rows of the table", len(rows) == len(SHAPES) and all(word in row[0] for word, row in zip(SHAPES, rows))
     for (name, text, times), shape in zip(rows, SHAPES.values()):
-        path = module.make(folder, shape, 2)
-        size, changes, memory = os.path.getsize(path), changes_in(path), peak(program, path, "--script", "/dev/null")
+        path = module.make(".", shape, 2)
+        size, changes, memory = os.path.getsize(path), changes_in(path), peak(path)
         yield "%s: %.1f bytes of text a change" % (name, size / changes), is_near(size / changes, float(text))
         yield "%s: %.1f times the file" % (name, memory / size), is_near(memory / size, float(times))
         signals = 2000 if shape == "simulator" else 100
@@ -58,26 +58,26 @@ def table(program, folder, module):
         yield "%s: %s" % (path, said), found != [] and set(found) == {said}
 
 
-def signals(program, folder, module):
+def signals(module):
     """What a signal takes without changes, and with a code that all share."""
     for codes in (["!"] * 60000, list(map(module.code, range(60000)))):
         names = "".join(module.variable("wire", 1, code, "signal%d" % k) for k, code in enumerate(codes))
-        path = store(folder, "signals", text=names + "$enddefinitions $end\n#0\n#5\n")
-        each = peak(program, path, "--script", "/dev/null") / len(codes)
+        path = store("signals", text=names + "$enddefinitions $end\n#0\n#5\n")
+        each = peak(path) / len(codes)
         yield "%.0f bytes a signal" % each, is_near(each, BYTES_OF_SIGNAL, 0.2)
 
 
-def forecasts(program, folder):
+def forecasts():
     """What vcdedit-amend foretells of changes that do not fit in memory, and of changes that do."""
     declared = '$var wire 1 ! x $end\n$var wire 1 " y $end\n$enddefinitions $end\n'
     ticks = "".join('#%d\n%d!\n%d"\n' % (tick, tick % 2, tick % 2) for tick in range(CHANGES))
-    capture, script = store(folder, "two", text=declared + ticks), store(folder, "script", text="value x 5\n")
-    words = [amend_of(program), capture, "--script", script]
+    capture, script = store("two", text=declared + ticks), store("script", text="value x 5\n")
+    words = [os.environ["VCDEDIT_AMEND"], capture, "--script", script]
     ample = run(words)
     yield "ample memory: %s" % (ample,), ample == (0, "1\n", "")
     limit = lambda: resource.setrlimit(resource.RLIMIT_AS, (LIMIT, resource.RLIM_INFINITY))
     compare = [os.path.join(TOP, "tools/vcdedit-compare"), "--from=%d" % (CHANGES - 9), capture, capture]
-    done = run(compare, preexec_fn=limit, env={**os.environ, "VCDEDIT_AMEND": amend_of(program)})
+    done = run(compare, preexec_fn=limit)
     yield "a comparison in little memory: %s" % (done,), done[0] == 0
     status, replies, errors = run(words, preexec_fn=limit)
     found = re.fullmatch(FORETOLD, errors)
@@ -88,8 +88,8 @@ def forecasts(program, folder):
         yield "%.0f bytes are there" % there, is_near(there, LIMIT, 0.001)
 
 
-def check(program, folder):
+def check():
     module = module_of("bench/make_captures")
-    yield from table(program, folder, module)
-    yield from signals(program, folder, module)
-    yield from forecasts(program, folder)
+    yield from table(module)
+    yield from signals(module)
+    yield from forecasts()

@@ -38,9 +38,11 @@ def are_whole(paths):
     return all(any(path.endswith("/" + end) for path in paths) for end in INSTALLED)
 
 
-def installs(program, folder):
+def installs(folder):
     os.makedirs(os.path.join(folder, "root", "bin"))
-    lay_out(program, folder)
+    # What is installed finds the programs that are installed.
+    del os.environ["VCDEDIT_AMEND"]
+    lay_out(os.environ.pop("VCDEDIT"), folder)
     store(folder, "named.vcd", text=NAMED)
     status, shown, _ = run(["make"], cwd=folder)
     is_told = all("make " + target in shown for target in ("install", "uninstall", "deb"))
@@ -117,7 +119,7 @@ def explains_tools(folder):
         yield "bash completes %s: %s" % (words, found), found == wanted
 
 
-def check(program, folder):
-    tree = os.path.join(folder, "tree")
-    yield from installs(program, tree)
+def check():
+    tree = os.path.abspath("tree")
+    yield from installs(tree)
     yield from packs(tree)

@@ -7,14 +7,14 @@ import signal
 import sys
 import unittest.mock
 
-from common import EXAMPLES, TOP, amend_of, load, load_if_there, module_of, run, store, store_program, tools_missing
+from common import EXAMPLES, TOP, load, load_if_there, module_of, run, store, store_program, tools_missing
 
 TOOL = os.path.join(TOP, "tools/vcdedit-view")
 I2C, I2C_LINE = os.path.join(EXAMPLES, "i2c/capture.vcd"), "i2c bench.scl bench.sda"
 GLITCHES, UART_LINE = os.path.join(EXAMPLES, "glitches/capture.vcd"), "uart bench.rx 10 8 none 1"
 NO_ROW = "line %d: uart: no row: a later line edits what it decodes (see --before)"
 WITHOUT_CS = "line 1: spi: without CS words are counted from tick 0: if one began before, all may be wrong"
-ODD, EDITED = "GTKWave may not show: %s", "output: edited, unlike another variable of the same code: %s"
+ODD, DIFFER = "GTKWave may not show: %s", "output: variables of one code that differ from now on: %s"
 
 
 def text(names, changes):
@@ -24,7 +24,7 @@ def text(names, changes):
 
 
 # A capture and lines; what is told; the rows: tick and text of each change.
-BYTE, LINE = text("r", "0! #20 1! #38 0! #50"), "uart r 2 8 none 1"
+BYTE, LINE = text("r", "0! #20 1! #34 0! #36 1! #38 0! #50"), "uart r 2 8 none 1"
 ROWS = {
     "frames that touch, the last up to the end": (
         text("r", "1! #20 0! #38 1! #40 0! #58 1! #59"), [LINE], [], {"uart": "0 -|20 byte_0x00|40 byte_0x00"}),
@@ -33,17 +33,21 @@ ROWS = {
         {"spi": "0 -|3 word_mosi_0x1|4 -|6 word_mosi_0x1"}),
     "a decoder among edits": (BYTE, ["invert r", LINE, "undo"], [NO_ROW % 2], {}),
     "a decoder among edits that come to nothing": (
-        BYTE, ["invert r", LINE, "invert r", "undo"], [], {"uart": "0 -|20 byte_0x00|40 -"}),
+        BYTE, ["invert r", LINE, "invert r", "undo"], [], {"uart": "0 -|20 byte_0x40|40 -"}),
     "a decoder of one of two variables of a code": (
-        "$var wire 1 ! a $end\n" + BYTE, ["invert r", LINE], [EDITED % "r"], {"uart": "0 -|20 byte_0x00|40 -"}),
+        "$var wire 1 ! a $end\n" + BYTE, ["invert r", LINE], [DIFFER % "a, r"], {"uart": "0 -|20 byte_0x40|40 -"}),
     "a decoder before an edit of another line": (
-        text("r c", '1! 0" #20 0! #38 1! #50'), [LINE, "invert c", "uart @0 2 8 none 1"], [],
-        {"uart": "0 -|20 byte_0x00|40 -", "uart_2": "0 -|20 byte_0x00|40 -"}),
+        text("r c", '1! 0" #20 0! #34 1! #36 0! #38 1! #50'), [LINE, "invert c", "uart @0 2 8 none 1"], [],
+        {"uart": "0 -|20 byte_0x40|40 -", "uart_2": "0 -|20 byte_0x40|40 -"}),
     "a decoder of a signal that gets another place": (
-        text("r c", '1! 1" #20 0! 0" #38 1! 1" #50'), ["uart @1 2 8 none 1", "remove r"], [NO_ROW % 1], {}),
+        text("r c", '1! 1" #20 0! 0" #34 1! 1" #36 0! 0" #38 1! 1" #50'), ["uart @1 2 8 none 1", "remove r"],
+        [NO_ROW % 1], {}),
     "a bus, in a capture of a simulator": (load(I2C).decode(), [I2C_LINE], [], {
         "i2c": "0 -|22 address_0x50_write|93 -|112 data_0x2a|183 -|212 address_0x50_read|283 -|302 data_0xc5|373 -",
         "i2c_conditions": "0 -|15 start|102 ack|192 ack|205 repeated-start|292 ack|382 nack|395 stop"}),
+    "one of two signals of a name": (
+        text("r r", '1! 1" #20 0" #34 1" #36 0" #38 1" #50'), ["uart @1 2 8 none 1"],
+        ["GTKWave may show another signal of the name: r"], {"uart": "0 -|20 byte_0x40|40 -"}),
     "names that are taken": (
         text("decoded.i2c decoded.i2c_3", '1! 1" #9'), ["i2c @0 @1", "i2c @1 @0"],
         [ODD % "decoded.i2c, decoded.i2c_3"], {"i2c_2": "0 -", "i2c_4": "0 -"}),
@@ -93,6 +97,13 @@ REFUSED = [
 ]
 
 
+def view(*words, stdin=None, before=(), **more):
+    """A run of the tool, with no viewer on the path."""
+    place = dict.fromkeys(["TMPDIR", "PATH"], os.path.abspath("tmp"))
+    environment = {**os.environ, "VCDEDIT_VIEWER": "", **place, **more}
+    return run([*before, sys.executable, TOOL, *words], stdin=stdin, env=environment)
+
+
 def rows_in(path):
     """The rows of a written file, as in ROWS."""
     head, _, changes = load(path).decode().partition("$enddefinitions $end\n")
@@ -104,116 +115,118 @@ def rows_in(path):
     return {name: "|".join(changes) for name, changes in rows.values()}
 
 
-def rows(program, folder, view):
+def rows():
     """Rows. vcdedit reads the written file again, and finds the capture after the lines. FST keeps the rows."""
     absent = tools_missing({"vcd2fst": "gtkwave"})
     if absent:
         print("view: the way through FST is not tested: %s" % absent[0])
     for name, (capture, lines, told, wanted) in ROWS.items():
-        store(folder, "c.vcd", text=capture)
-        store(folder, "script", text="\n".join(lines))
+        store("c.vcd", text=capture)
+        store("script", text="\n".join(lines))
         status, _, errors = view("c.vcd", "-o", "v.vcd", "--script", "script")
-        found = status, rows_in(os.path.join(folder, "v.vcd")), errors
+        found = status, rows_in("v.vcd"), errors
         yield "%s: %s" % (name, found), found == (0, wanted, "".join("vcdedit-view: %s\n" % line for line in told))
-        run([program, "-i", "c.vcd", "--script", "script", "-o", "w.vcd"], cwd=folder)
-        again = run([program, "-i", "v.vcd", "--script", "/dev/null", "-o", "/dev/stdout"], cwd=folder)[1]
+        run([os.environ["VCDEDIT"], "-i", "c.vcd", "--script", "script", "-o", "w.vcd"])
+        again = run([os.environ["VCDEDIT"], "-i", "v.vcd", "--script", "/dev/null", "-o", "/dev/stdout"])[1]
         comment, _, rest = again.partition("\n")
         shown = all("decoded.%s by line" % row in comment for row in wanted)
         yield "%s: its comment: %s" % (name, comment), "vcdedit-view: no evidence" in comment and shown
-        yield "%s: the signals: %s" % (name, again), rest == load(folder, "w.vcd").decode()
+        yield "%s: the signals: %s" % (name, again), rest == load("w.vcd").decode()
         if not absent:
-            run(["vcd2fst", "v.vcd", "v.fst"], cwd=folder)
-            back = store(folder, "back.vcd", text=run(["fst2vcd", "v.fst"], cwd=folder)[1])
+            run(["vcd2fst", "v.vcd", "v.fst"])
+            back = store("back.vcd", text=run(["fst2vcd", "v.fst"])[1])
             yield "%s: through FST" % name, rows_in(back) == wanted
 
 
-def shown_in(folder):
+def shown_names():
     """What GTKWave is to show of the written file."""
-    return re.findall(r"^@\d+\n(?:\+\{.*\} )?(.*)$", load(folder, "v.gtkw").decode(), flags=re.M)
+    return re.findall(r"^@\d+\n(?:\+\{.*\} )?(.*)$", load("v.gtkw").decode(), flags=re.M)
 
 
-def settings(program, folder, view):
+def settings():
     declared = "".join("$var %s $end\n" % one.replace(" ! ", " c%d " % place) for place, one in enumerate(NAMES))
     declared += "$var real 64 # v $end $upscope $end $enddefinitions $end #0 #9"
-    store(folder, "c.vcd", text="$scope module my top $end\n%s\n" % declared)
+    store("c.vcd", text="$scope module my top $end\n%s\n" % declared)
     status, _, errors = view("c.vcd", "-o", "v.vcd")
-    found, wanted = shown_in(folder), ["mytop." + name for name in NAMES.values()]
+    found, wanted = shown_names(), ["mytop." + name for name in NAMES.values()]
     yield "names: %s" % found, status == 0 and found == wanted
     yield "what is left out: " + errors, errors == "vcdedit-view: c.vcd: 1 variable left out\n"
-    written = load(folder, "v.vcd").decode()
+    written = load("v.vcd").decode()
     for name in ("module mytop", "rqs", "q [3]", "a[2] [3:0]"):
         yield "a name of one word: " + name, " %s $end\n" % name in written
     another = '$scope module bench $end $var wire 1 " y $end $upscope $end $enddefinitions'
-    store(folder, "c.vcd", text=load(GLITCHES).decode().replace("$enddefinitions", another))
+    store("c.vcd", text=load(GLITCHES).decode().replace("$enddefinitions", another))
     for lines, both in BEFORE.items():
         for words, wanted in zip(([], ["--before"]), both):
             status, _, errors = view("c.vcd", *words, "-o", "v.vcd", *lines)
-            found = " ".join(shown_in(folder)).replace("bench.", "").replace("decoded.", "")
+            found = " ".join(shown_names()).replace("bench.", "").replace("decoded.", "")
             yield "%s %s: %s, %s" % (words, lines, found, errors), (status, found) == (0, wanted)
     declared = '$timescale 1 s $end $var reg 2 ! r $end $var wire 1 " q $end $enddefinitions $end'
-    store(folder, "c.vcd", text=declared + ' #0 b10 ! 1" #9\n')
+    store("c.vcd", text=declared + ' #0 b10 ! 1" #9\n')
     view("c.vcd", "-o", "v.vcd", "--before", "invert r", "rename r before.q")
-    items = re.findall(r"^\$(?:timescale|scope .* |upscope|dumpvars)", load(folder, "v.vcd").decode(), flags=re.M)
+    items = re.findall(r"^\$(?:timescale|scope .* |upscope|dumpvars)", load("v.vcd").decode(), flags=re.M)
     wanted = ["$timescale", "$scope module before_2 ", "$upscope", "$dumpvars"]
     yield "a scope that is free, for the capture before: %s" % items, items == wanted
-    store(folder, "script", text="value before_2.r 9\nvalue before.q 9\nvalue before_2.q 9\n")
-    values = run([program, "-i", "v.vcd", "--script", "script"], cwd=folder)
+    store("script", text="value before_2.r 9\nvalue before.q 9\nvalue before_2.q 9\n")
+    values = run([os.environ["VCDEDIT"], "-i", "v.vcd", "--script", "script"])
     yield "the capture before: %s" % (values,), values[1] == "10\n01\n1\n"
     for words, begin, scale, size in WINDOWS:
         view(GLITCHES, "-o", "v.vcd", UART_LINE, *words)
-        saved = load(folder, "v.gtkw").decode()
+        saved = load("v.gtkw").decode()
         zoom = float(re.search(r"^\*(\S+)", saved, flags=re.M).group(1))
         told = "[timestart] %d\n[size] %d %d\n" % (begin, *size)
         yield "the window of %s: %s" % (words, saved), told in saved and int(2**-zoom) == scale
-    tool, old = module_of("tools/vcdedit-view"), store(folder, "old", text="old")
+    tool, old = module_of("tools/vcdedit-view"), store("old", text="old")
     with unittest.mock.patch("os.replace", side_effect=OSError), contextlib.suppress(tool.Trouble):
         tool.copy_whole(TOOL, old)
-    left = [name for name in os.listdir(folder) if "vcdedit-view" in name]
+    left = [name for name in os.listdir() if "vcdedit-view" in name]
     yield "a copy that fails: %s, %s" % (load(old), left), (load(old), left) == (b"old", [])
 
 
-def programs(program, folder, view):
+def programs():
     """A listing that a pipe does not hold, a capture that changes between two runs, and only one of the programs."""
     many = "".join("$var wire 1 ! a_signal_of_many_%d $end\n" % place for place in range(3000))
-    store(folder, "many.vcd", text=many + "$enddefinitions $end #0 1! #9\n")
+    store("many.vcd", text=many + "$enddefinitions $end #0 1! #9\n")
     found = view(I2C, "-o", "v.vcd", I2C_LINE, before=["/bin/sh", "-c", 'exec "$@" > /dev/full', "sh"])
-    told = "vcdedit-view: standard output or %s/tmp: No space left on device\n" % folder
+    told = "vcdedit-view: standard output or %s: No space left on device\n" % os.path.abspath("tmp")
     yield "a full standard output: %s" % (found,), found == (4, "", told)
-    writes = store_program(folder, "writes", text='#!/bin/sh\necho "#9" >> many.vcd\nexec %s "$@"\n' % program)
+    writes = store_program("./writes", text='#!/bin/sh\necho "#9" >> many.vcd\nexec %s "$@"\n' % os.environ["VCDEDIT"])
     found = view("many.vcd", "-o", "w.vcd", "invert @0", VCDEDIT=writes)
     told = "vcdedit-view: %s\nvcdedit-view: many.vcd: another program writes it: run again when that has ended\n"
-    told %= EDITED % "a_signal_of_many_0"
+    told %= DIFFER % (", ".join(map("a_signal_of_many_%d".__mod__, range(5))) + ", and 2995 more")
     yield "a capture that changes: %s" % (found,), found == (4, "", told)
-    notes = store_program(folder, "notes", text='#!/bin/sh\necho "first-look: a build" >&2\nexec %s "$@"\n' % program)
-    found = view(I2C, "-o", "v.vcd", I2C_LINE, VCDEDIT=notes, VCDEDIT_AMEND="none")
+    first_look = '#!/bin/sh\necho "first-look: a build" >&2\nexec %s "$@"\n' % os.environ["VCDEDIT"]
+    found = view(I2C, "-o", "v.vcd", I2C_LINE, VCDEDIT=store_program("./look", text=first_look), VCDEDIT_AMEND="none")
     told = "vcdedit-view: no remarks on lines: there is no program none: say in VCDEDIT_AMEND where it is\n"
     yield "first-look alone: %s" % (found,), found[:1] == (0,) and I2C_LINE in found[1] and found[2].startswith(told)
+    found = view(I2C, "-o", "v.vcd", "value bench.d 0", VCDEDIT_AMEND="none")
+    yield "a refusal without vcdedit-amend: %s" % (found,), found[0] == 1 and "value bench.d 0: NoSuchName" in found[2]
 
 
-def refusals(folder, view):
-    os.link(store(folder, "c.vcd", text=text("r", "1!")), os.path.join(folder, "linked.vcd"))
+def refusals():
+    os.link(store("c.vcd", text=text("r", "1!")), "linked.vcd")
     for name in ("p.png", "s.vcd", "fixed.vcd"):
-        store(folder, name, text="")
-    os.chmod(os.path.join(folder, "fixed.vcd"), 0o444)
-    os.mkfifo(os.path.join(folder, "pipe.gtkw"))
+        store(name, text="")
+    os.chmod("fixed.vcd", 0o444)
+    os.mkfifo("pipe.gtkw")
     for name, target in (("k.gtkw", "p.png"), ("to_pipe.png", "pipe.gtkw")):
-        os.symlink(target, os.path.join(folder, name))
+        os.symlink(target, name)
     for words, status, told in REFUSED:
-        before = os.listdir(folder)
-        with open(os.path.join(folder, "c.vcd")) as given:
+        before = os.listdir()
+        with open("c.vcd") as given:
             found = view(*words, stdin=given)
-        written = set(os.listdir(folder)).difference(before)
+        written = set(os.listdir()).difference(before)
         right = found[0] == status and told in found[2] and "Traceback" not in found[2] and not written
         yield "%s: %s, %s" % (words, found, written), right
 
 
-def viewers(folder, view):
+def viewers():
     """What is started, with a program in the place of each. They are given what is shown; it is gone when they end."""
-    tools, saw = os.path.join(folder, "tools"), '#!/bin/sh\necho "$0 $*" > %s/saw; /bin/cat *.vcd > %s/seen\n'
+    tools, saw = os.path.abspath("tools"), '#!/bin/sh\necho "$0 $*" > ${0%/*}/saw; /bin/cat *.vcd > ${0%/*}/seen\n'
     for tool, words in (("surfer", "capture.vcd"), ("gtkwave", "capture.vcd capture.gtkw"), ("other", "capture.vcd")):
-        path = store_program(tools, tool, text=saw % (folder, folder))
+        path = store_program(tools, tool, text=saw)
         status, _, errors = view(I2C, I2C_LINE, **({"VCDEDIT_VIEWER": path} if tool == "other" else {"PATH": tools}))
-        found = status, load(folder, "saw").decode(), "i2c_conditions" in rows_in(os.path.join(folder, "seen"))
+        found = status, load("tools/saw").decode(), "i2c_conditions" in rows_in("tools/seen")
         yield "starts %s: %s, %s" % (tool, found, errors), found == (0, "%s %s\n" % (path, words), True)
     store_program(tools, "gtkwave", text="#!/bin/sh\nexit 3\n")
     status, _, errors = view(I2C, PATH=tools)
@@ -226,21 +239,11 @@ def viewers(folder, view):
     yield "no picture: " + errors, status == 4 and errors == "vcdedit-view: GTKWave made no picture: none\n"
     store_program(tools, "xvfb-run", text="#!/bin/sh\n/bin/cat *.gtkw show.tcl rc > picture.png\n")
     view(I2C, I2C_LINE, "--picture", "p.png", PATH=tools)
-    yield "a picture", b"decoded.i2c" in load_if_there(folder, "p.png", default=b"")
-    yield "nothing is left", not os.listdir(os.path.join(folder, "tmp"))
+    yield "a picture", b"decoded.i2c" in load_if_there("p.png", default=b"")
+    yield "nothing is left", not os.listdir("tmp")
 
 
-def check(program, folder):
-    temporary = os.path.join(folder, "tmp")
-    os.mkdir(temporary)
-    # There is no viewer on this path.
-    environment = {**os.environ, "VCDEDIT": program, "VCDEDIT_AMEND": amend_of(program), "VCDEDIT_VIEWER": "",
-                   "TMPDIR": temporary, "PATH": temporary}
-
-    def view(*words, stdin=None, before=(), **more):
-        return run([*before, sys.executable, TOOL, *words], cwd=folder, stdin=stdin, env={**environment, **more})
-
-    for part in (refusals, viewers):
-        yield from part(folder, view)
-    for part in (rows, settings, programs):
-        yield from part(program, folder, view)
+def check():
+    os.mkdir("tmp")
+    for part in (refusals, viewers, rows, settings, programs):
+        yield from part()
