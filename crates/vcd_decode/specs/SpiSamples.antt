@@ -1,5 +1,6 @@
 -- The samples of a data line of a serial peripheral interface: at how many of them the line is x or
--- z, at how many it changes, and how many changes come after and before them. The project's own.
+-- z, at how many it changes, and how many changes come after and before them; and at how many
+-- sampling edges the chip select changes. The project's own.
 use Rattle.std.specs.Prelude.{ℕ, suc, ◌==◌, ◌&&◌, ◌||◌, Bool, not, Option, List, filter}
 use Rattle.std.specs.Prelude.{if◌then◌else◌}
 use Rattle.std.specs.List.{count_by, range_with_len}
@@ -61,3 +62,17 @@ unfoldable pub changes_before_samples : SpiSetup → (clk line : ℕ → Bit)
 changes_before_samples u clk line cs end =
     count_by (λ t. is_straight_change (letter_before line t) (line t) && is_selected cs t
     && is_waiting_level u.mode (clk t)) (range_with_len 0 (suc end))
+
+-- ---- the changes of the chip select at edges
+
+-- whether the chip is selected either just before a tick or at it, but not at both
+abbrev pub is_selection_change : (before at : Bit) → Bool
+is_selection_change before at =
+    (is_zero before && not (is_zero at)) || (not (is_zero before) && is_zero at)
+
+-- at how many of the ticks 0 to `end` there is a sampling edge and a chip select does so, so that
+-- its new value is the one that counts
+unfoldable pub edges_at_selection_changes : SpiSetup → (clk cs : ℕ → Bit) → (end : ℕ) → ℕ
+edges_at_selection_changes u clk cs end =
+    count_by (λ t. has_sampling_edge u.mode clk t
+    && is_selection_change (letter_before cs t) (cs t)) (range_with_len 0 (suc end))

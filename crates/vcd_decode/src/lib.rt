@@ -26,7 +26,7 @@ pub use laws::{
     unclear_edges_count_for_nothing,
 };
 pub use setup_error::SetupError;
-pub use spi_samples::{LineSamples, spi_line_samples};
+pub use spi_samples::{LineSamples, spi_edges_at_selection_changes, spi_line_samples};
 pub use spi_setup::{BitOrder, GREATEST_MODE, Spi, WORD_BITS_LIMIT};
 pub use spi_words::spi;
 pub use uart_edges::uart_edges_amid_bits;

@@ -1,4 +1,5 @@
-//! The samples of a data line of a serial peripheral interface, and its changes around them.
+//! The samples of a data line of a serial peripheral interface, its changes around them, and the
+//! edges at which the chip select changes.
 
 ghost use Rattle.std.specs.Prelude.{◌≡◌, ◌∷◌, [], Some};
 ghost use Rattle.std.specs.Option.{option_copied, option_map};
@@ -8,6 +9,7 @@ ghost use Rattle.vcd_decode.specs.Lines as lines;
 ghost use Rattle.vcd_decode.specs.WaveLines.{line_of};
 ghost use Rattle.vcd_decode.specs.SpiSamples.{unclear_samples, moving_samples};
 ghost use Rattle.vcd_decode.specs.SpiSamples.{changes_after_samples, changes_before_samples};
+ghost use Rattle.vcd_decode.specs.SpiSamples.{edges_at_selection_changes};
 ghost use Rattle.vcd_decode.specs.inside.SpiSetup.{is_present_and};
 ghost use Rattle.vcd_decode.specs.inside.SpiSamples as spec;
 
@@ -134,4 +136,38 @@ fn shows_straight_change(before: Option<Bit>, at: Option<Bit>) -> bool
     ensures { result ≡ spec.shows_straight_change before at }
 {
     (shows_zero(before) & shows_one(at)) | (shows_one(before) & shows_zero(at))
+}
+
+/// The number of ticks, up to `end`, at which `clk` has a sampling edge and `cs` changes to or from
+/// 0. [`spi`](crate::spi) goes by the new value of `cs`, but it depends on which of the two lines
+/// changes first whether the bit belongs to the transfer.
+///
+/// It is one walk over the changes of both waves, and takes no memory.
+pub fn spi_edges_at_selection_changes<'a>(clk: &'a Wave, cs: &'a Wave, end: u64, setup: &Spi) -> u64
+    requires one_bit { EachOneBit (Some clk.now ∷ Some cs.now ∷ []) }
+    requires ended { EachUpTo end (Some clk.now ∷ Some cs.now ∷ []) }
+    ensures { result
+        ≡ edges_at_selection_changes setup.now (line_of clk.now) (line_of cs.now) end }
+{
+    let mut count = 0;
+    for edge in BitEdges::new(Some(clk), None, None, Some(cs)) {
+        count += u64::from(is_edge_at_selection_change(setup, &edge));
+    }
+    count
+}
+
+/// Whether the clock has a sampling edge at an edge, and the selection of the chip changes there.
+fn is_edge_at_selection_change(setup: &Spi, edge: &BitEdge) -> bool
+    ensures { result ≡ spec.is_edge_at_selection_change setup.now edge.now }
+{
+    setup.samples_at(edge.before[0], edge.at[0]) & changes_selection(edge)
+}
+
+/// Whether the selection of the chip begins or ends at an edge.
+fn changes_selection(edge: &BitEdge) -> bool
+    ensures { result ≡ spec.changes_selection edge.now }
+{
+    let before = selects_chip(edge.before[3]);
+    let at = selects_chip(edge.at[3]);
+    (before & !at) | (!before & at)
 }

@@ -39,6 +39,7 @@ use Rattle.vcd_script.specs.declared.script.command.Command.TheVariants as comma
 use Rattle.vcd_script.specs.SpiRemarks.{unclear_text, moving_text, unclear_count, moving_count}
 use Rattle.vcd_script.specs.SpiRemarks.{changes_after_text, count_if_more, changes_after_count}
 use Rattle.vcd_script.specs.SpiRemarks.{changes_before_count, spikes_text, unselected_remark}
+use Rattle.vcd_script.specs.SpiRemarks.{selection_changes_text, selection_changes_count}
 
 -- ---- runs of one value
 
@@ -455,6 +456,11 @@ module _ (c : Contents) where
   selected_remark None = without_cs_text ∷ []
   selected_remark (Some k) = if is_zero (signal_bit c k 0 0) then selected_text ∷ [] else []
 
+  -- the remark on sampling edges at which CS changes
+  abbrev pub selection_changes_remark : SpiSetup → (clk : ℕ) → (cs : Option ℕ) → List (List ℕ)
+  selection_changes_remark u clk cs =
+      count_remark selection_changes_text (selection_changes_count c u clk cs)
+
   -- the remark on a CS that is 0 at the end
   abbrev pub unfinished_remark : Option ℕ → List (List ℕ)
   unfinished_remark None = []
@@ -478,7 +484,8 @@ remarks c (commands.Spi clk mosi miso cs setup) =
     ++ samples_remarks c setup clk cs (codes "MOSI") mosi
     ++ samples_remarks c setup clk cs (codes "MISO") miso
     ++ optional_line_remark c (codes "spi: CS") cs
-    ++ selected_remark c cs ++ unselected_remark c cs ++ unfinished_remark c cs
+    ++ selected_remark c cs ++ unselected_remark c cs
+    ++ selection_changes_remark c setup clk cs ++ unfinished_remark c cs
 remarks c (commands.I2c scl sda) =
     line_remark c true (codes "i2c: SCL") scl ++ line_remark c true (codes "i2c: SDA") sda
     ++ bus_remarks (signal_bit c scl 0) (signal_bit c sda 0) c.end

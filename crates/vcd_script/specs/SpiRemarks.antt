@@ -1,5 +1,6 @@
 -- What there is to say of the samples of `spi`: how many of a data line are x or z, at how many it
--- changes, that it changes after them, and that its chip is never selected. The project's own.
+-- changes, that it changes after them, that its chip is never selected, and at how many sampling
+-- edges CS changes. The project's own.
 use Rattle.std.specs.Prelude.{ℕ, Option, Some, None, List, [], ◌∷◌, ◌++◌, if◌then◌else◌, codes}
 use Rattle.std.specs.Prelude.{nat_lt}
 use Rattle.std.specs.List.{list_any}
@@ -9,6 +10,7 @@ use Rattle.vcd_core.specs.Value.{letter_at}
 use Rattle.vcd_decode.specs.Lines.{is_zero}
 use Rattle.vcd_decode.specs.SpiSamples.{unclear_samples, moving_samples}
 use Rattle.vcd_decode.specs.SpiSamples.{changes_after_samples, changes_before_samples}
+use Rattle.vcd_decode.specs.SpiSamples.{edges_at_selection_changes}
 use Rattle.vcd_decode.specs.SpiSetup.{SpiSetup}
 use Rattle.vcd_edit.specs.Effect.{signal_bit}
 
@@ -38,6 +40,11 @@ spikes_text line = codes "spi: runs of " ++ line
 -- the text of the remark on a CS that is never 0
 abbrev pub unselected_text : List ℕ
 unselected_text = codes "spi: CS is never 0: nothing is selected"
+
+-- the text before the number of sampling edges at which CS changes
+abbrev pub selection_changes_text : List ℕ
+selection_changes_text =
+    codes "spi: sampling edges at whose tick CS changes, so that its new value counts: "
 
 -- on a capture
 module _ (c : Contents) where
@@ -71,3 +78,9 @@ module _ (c : Contents) where
   unselected_remark (Some k) =
       if list_any (λ d. is_zero (letter_at d.value 0)) (signal_at c k).changes then []
       else unselected_text ∷ []
+
+  -- at how many sampling edges a CS changes to or from 0; none if it is absent
+  abbrev pub selection_changes_count : SpiSetup → (clk : ℕ) → (cs : Option ℕ) → ℕ
+  selection_changes_count u clk None = 0
+  selection_changes_count u clk (Some k) =
+      edges_at_selection_changes u (signal_bit c clk 0) (signal_bit c k 0) c.end

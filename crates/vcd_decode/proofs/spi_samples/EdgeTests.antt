@@ -20,12 +20,14 @@ use Rattle.vcd_decode.specs.Spi.{has_sampling_edge, is_selected}
 use Rattle.vcd_decode.specs.SpiSamples.{sampled_ticks, is_moving, unclear_samples, moving_samples}
 use Rattle.vcd_decode.specs.SpiSamples.{is_straight_change, is_sampled_level, is_waiting_level}
 use Rattle.vcd_decode.specs.SpiSamples.{changes_after_samples, changes_before_samples}
+use Rattle.vcd_decode.specs.SpiSamples.{is_selection_change, edges_at_selection_changes}
 use Rattle.vcd_decode.specs.inside.PartialWord.{line_bit}
 use Rattle.vcd_decode.specs.inside.LineEdges.{lines_of, line_edge}
 use Rattle.vcd_decode.specs.inside.SpiWords.{selects_chip, is_sampling}
 use Rattle.vcd_decode.specs.inside.SpiSamples.{is_another_bit, is_unclear_sample, is_moving_sample}
 use Rattle.vcd_decode.specs.inside.SpiSamples.{shows_straight_change, shows_sampled_level, shows_waiting_level}
 use Rattle.vcd_decode.specs.inside.SpiSamples.{is_change_after_sample, is_change_before_sample}
+use Rattle.vcd_decode.specs.inside.SpiSamples.{changes_selection, is_edge_at_selection_change}
 use Rattle.vcd_decode.specs.inside.SpiSetup.{is_present_and}
 use Rattle.vcd_decode.specs.inside.SpiParts.{samples_rising_edge}
 use Rattle.vcd_decode.proofs.shared.EdgeTicks.{over_edges}
@@ -81,7 +83,46 @@ count_next p count one all passes items rest x split is more so_far =
     let first : count + count_by p (x ∷ rest) ≡ all = ap (λ ys. count + count_by p ys) (sym split) ∙ so_far in
     omega (arith, first, count_first p x rest, more ∙ number_is passes ∙ ap (λ b. if b then 1 else 0) is)
 
+-- ---- a test of an edge that fails where no line changes
+
+module _ (waves : List (Option WaveView)) (at_edge : BitEdge → Bool) (test : ℕ → Bool)
+    (same : (t : ℕ) → at_edge (line_edge (lines_of waves) t) ≡ test t)
+    (fails : (e : BitEdge) → e.at ≡ e.before → at_edge e ≡ false) where
+  quiet : (e : BitEdge) → e.at ≡ e.before → if_passes at_edge e ≡ []
+  quiet e none = ap (λ b. if b then e ∷ [] else []) (fails e none)
+
+  counted : (t : ℕ) → length (if_passes at_edge (line_edge (lines_of waves) t)) ≡ (if test t then 1 else 0)
+  counted t = ap (λ b. length (if b then line_edge (lines_of waves) t ∷ [] else [])) (same t) ∙ step (test t)
+    where
+      step : (b : Bool) → length (if b then line_edge (lines_of waves) t ∷ [] else []) ≡ (if b then 1 else 0)
+      step true = refl
+      step false = refl
+
+  listed : (ts : List ℕ)
+      → length (flat_map (λ t. if_passes at_edge (line_edge (lines_of waves) t)) ts) ≡ count_by test ts
+  listed [] = refl
+  listed (t ∷ ts) =
+      length-append (if_passes at_edge (line_edge (lines_of waves) t))
+      (flat_map (λ t. if_passes at_edge (line_edge (lines_of waves) t)) ts)
+      ∙ (λ i. counted t i + listed ts i) ∙ sym (count_first test t ts)
+
+  -- as many edges as ticks pass the test
+  pub edges_as_ticks : (end : ℕ) → count_by at_edge (bit_edges_of waves end)
+      ≡ count_by test (range_with_len 0 (suc end))
+  edges_as_ticks end =
+      sym (count_listed at_edge (bit_edges_of waves end))
+      ∙ ap length (over_edges waves (if_passes at_edge) (λ t none. quiet (line_edge (lines_of waves) t) none) end)
+      ∙ listed (range_with_len 0 (suc end))
+
 -- ---- the edges at which a line is sampled
+
+-- at tick 0 is no sampling edge
+no_first_edge : (mode : ℕ) (clk : ℕ → Bit) → has_sampling_edge mode clk 0 ≡ false
+no_first_edge mode clk = no_edge (samples_rising_edge mode)
+  where
+    no_edge : (rise : Bool) → (if rise then false && is_one (clk 0) else false && is_zero (clk 0)) ≡ false
+    no_edge true = refl
+    no_edge false = refl
 
 module _ (u : SpiSetup) (clk line : WaveView) (cs : Option WaveView) where
   abbrev waves : List (Option WaveView)
@@ -106,47 +147,15 @@ module _ (u : SpiSetup) (clk line : WaveView) (cs : Option WaveView) where
   -- no edge is at tick 0
   first_is_none : sampled 0 ≡ false
   first_is_none =
-      ap (λ b. is_selected (option_map line_of cs) 0 && b) (no_edge (samples_rising_edge u.mode))
+      ap (λ b. is_selected (option_map line_of cs) 0 && b) (no_first_edge u.mode (line_of clk))
       ∙ and_none (is_selected (option_map line_of cs) 0)
-    where
-      no_edge : (rise : Bool) → (if rise then false && is_one (line_of clk 0) else false && is_zero (line_of clk 0))
-          ≡ false
-      no_edge true = refl
-      no_edge false = refl
-
-  -- a test of an edge that fails where no line changes
-  module _ (at_edge : BitEdge → Bool) (test : ℕ → Bool) (same : (t : ℕ) → at_edge (edge_at t) ≡ test t)
-      (fails : (e : BitEdge) → e.at ≡ e.before → at_edge e ≡ false) where
-    quiet : (e : BitEdge) → e.at ≡ e.before → if_passes at_edge e ≡ []
-    quiet e none = ap (λ b. if b then e ∷ [] else []) (fails e none)
-
-    counted : (t : ℕ) → length (if_passes at_edge (edge_at t)) ≡ (if test t then 1 else 0)
-    counted t = ap (λ b. length (if b then edge_at t ∷ [] else [])) (same t) ∙ step (test t)
-      where
-        step : (b : Bool) → length (if b then edge_at t ∷ [] else []) ≡ (if b then 1 else 0)
-        step true = refl
-        step false = refl
-
-    listed : (ts : List ℕ) → length (flat_map (λ t. if_passes at_edge (edge_at t)) ts) ≡ count_by test ts
-    listed [] = refl
-    listed (t ∷ ts) =
-        length-append (if_passes at_edge (edge_at t)) (flat_map (λ t. if_passes at_edge (edge_at t)) ts)
-        ∙ (λ i. counted t i + listed ts i) ∙ sym (count_first test t ts)
-
-    -- as many edges as ticks pass the test
-    pub edges_as_ticks : (end : ℕ) → count_by at_edge (bit_edges_of waves end)
-        ≡ count_by test (range_with_len 0 (suc end))
-    edges_as_ticks end =
-        sym (count_listed at_edge (bit_edges_of waves end))
-        ∙ ap length (over_edges waves (if_passes at_edge) (λ t none. quiet (edge_at t) none) end)
-        ∙ listed (range_with_len 0 (suc end))
 
   -- a test of what an edge shows of the line: as many edges as sampled ticks pass it
   pub edges_as_samples : (at_edge : BitEdge → Bool) (test : ℕ → Bool) (same : (t : ℕ) → at_edge (edge_at t) ≡ test t)
       (end : ℕ) → count_by (λ e. is_sampling u e && at_edge e) (bit_edges_of waves end)
       ≡ count_by test (sampled_ticks u (line_of clk) (option_map line_of cs) end)
   edges_as_samples at_edge test same end =
-      edges_as_ticks (λ e. is_sampling u e && at_edge e) (λ t. sampled t && test t)
+      edges_as_ticks waves (λ e. is_sampling u e && at_edge e) (λ t. sampled t && test t)
       (λ t i. sampling_is t i && same t i) (λ e none. ap (λ b. b && at_edge e) (still e none)) end
       ∙ sym (count_filtered sampled test (range_with_len 0 (suc end)))
 
@@ -189,7 +198,7 @@ few_ticks test end none =
 
 module _ (u : SpiSetup) (clk line : WaveView) (cs : Option WaveView) (end : ℕ) where
   abbrev edges : List BitEdge
-  edges = bit_edges_of (Some clk ∷ Some line ∷ None ∷ cs ∷ []) end
+  edges = bit_edges_of (waves u clk line cs) end
 
   pub all_unclear : count_by (is_unclear_sample u) edges
       ≡ unclear_samples u (line_of clk) (line_of line) (option_map line_of cs) end
@@ -214,7 +223,7 @@ module _ (u : SpiSetup) (clk line : WaveView) (cs : Option WaveView) (end : ℕ)
   pub all_after : count_by (is_change_after_sample u) edges
       ≡ changes_after_samples u (line_of clk) (line_of line) (option_map line_of cs) end
   unfolding changes_after_samples
-  all_after = edges_as_ticks u clk line cs (is_change_after_sample u)
+  all_after = edges_as_ticks (waves u clk line cs) (is_change_after_sample u)
       (λ t. is_straight_change (letter_before (line_of line) t) (line_of line t)
       && is_selected (option_map line_of cs) t && is_sampled_level u.mode (letter_before (line_of clk) t)
       && is_sampled_level u.mode (line_of clk t))
@@ -228,7 +237,7 @@ module _ (u : SpiSetup) (clk line : WaveView) (cs : Option WaveView) (end : ℕ)
   pub all_before : count_by (is_change_before_sample u) edges
       ≡ changes_before_samples u (line_of clk) (line_of line) (option_map line_of cs) end
   unfolding changes_before_samples
-  all_before = edges_as_ticks u clk line cs (is_change_before_sample u)
+  all_before = edges_as_ticks (waves u clk line cs) (is_change_before_sample u)
       (λ t. is_straight_change (letter_before (line_of line) t) (line_of line t)
       && is_selected (option_map line_of cs) t && is_waiting_level u.mode (line_of clk t))
       (λ t. ap (λ b. is_straight_change (letter_before (line_of line) t) (line_of line t) && b
@@ -247,3 +256,24 @@ module _ (u : SpiSetup) (clk line : WaveView) (cs : Option WaveView) (end : ℕ)
   unfolding changes_before_samples
   before_fits = few_ticks (λ t. is_straight_change (letter_before (line_of line) t) (line_of line t)
       && is_selected (option_map line_of cs) t && is_waiting_level u.mode (line_of clk t)) end refl
+
+-- ---- the edges at which the chip select changes
+
+module _ (u : SpiSetup) (clk cs : WaveView) (end : ℕ) where
+  pub all_at_changes : count_by (is_edge_at_selection_change u)
+      (bit_edges_of (Some clk ∷ None ∷ None ∷ Some cs ∷ []) end)
+      ≡ edges_at_selection_changes u (line_of clk) (line_of cs) end
+  unfolding edges_at_selection_changes
+  all_at_changes = edges_as_ticks (Some clk ∷ None ∷ None ∷ Some cs ∷ []) (is_edge_at_selection_change u)
+      (λ t. has_sampling_edge u.mode (line_of clk) t
+      && is_selection_change (letter_before (line_of cs) t) (line_of cs t)) (λ t. refl)
+      (λ e same. ap (λ bits. is_edge_at_selection_change u
+      (record { tick = e.tick; before = e.before; at = bits })) same
+      ∙ ap (λ b. b && changes_selection (record { tick = e.tick; before = e.before; at = e.before }))
+      (never_sampled u.mode (line_bit e.before 0))) end
+
+  pub at_changes_fit : edges_at_selection_changes u (line_of clk) (line_of cs) end ≤ end
+  unfolding edges_at_selection_changes
+  at_changes_fit = few_ticks (λ t. has_sampling_edge u.mode (line_of clk) t
+      && is_selection_change (letter_before (line_of cs) t) (line_of cs t)) end
+      (ap (λ b. b && is_selection_change X (line_of cs 0)) (no_first_edge u.mode (line_of clk)))

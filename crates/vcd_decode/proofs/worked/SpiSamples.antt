@@ -1,4 +1,5 @@
--- Worked cases: the samples of a data line of a serial peripheral interface, and its changes around them.
+-- Worked cases: the samples of a data line of a serial peripheral interface, its changes around them, and the edges at
+-- which the chip select changes.
 use Rattle.std.proofs.Common.{◌≡◌, refl}
 use Rattle.std.specs.Prelude.{ℕ, ◌%◌, ◌==◌, Option, Some, None, [], ◌∷◌, get_or, if◌then◌else◌}
 use Rattle.vcd_core.specs.declared.bit.Bit.{Bit}
@@ -6,7 +7,7 @@ use Rattle.vcd_core.specs.declared.bit.Bit.TheVariants.{Zero, One, X, Z}
 use Rattle.vcd_decode.specs.declared.spi_setup.BitOrder.TheVariants.{Msb}
 use Rattle.vcd_decode.specs.SpiSetup.{SpiSetup, spi_setup}
 use Rattle.vcd_decode.specs.SpiSamples.{sampled_ticks, unclear_samples, moving_samples}
-use Rattle.vcd_decode.specs.SpiSamples.{changes_after_samples, changes_before_samples}
+use Rattle.vcd_decode.specs.SpiSamples.{changes_after_samples, changes_before_samples, edges_at_selection_changes}
 
 -- a clock that rises at each odd tick
 clock : ℕ → Bit
@@ -75,3 +76,28 @@ slow_before_in_mode_1 = refl
 slow_selected : changes_after_samples mode_0 slow_clock slow_line select 13 ≡ 2
 unfolding mode_0 slow_clock slow_line select changes_after_samples
 slow_selected = refl
+
+-- a chip select that goes from x to 1 at 1 and from 0 to x at 11, falls at 3, 6 and 10, and rises at 5 and 8
+unsteady_select : ℕ → Bit
+unsteady_select t =
+    get_or (X ∷ One ∷ One ∷ Zero ∷ Zero ∷ One ∷ Zero ∷ Zero ∷ One ∷ One ∷ Zero ∷ X ∷ []) t X
+
+-- in mode 0 it falls, rises and becomes x at edges at 3, 5 and 11; from x to 1 nothing is selected before or after
+selection_changes : edges_at_selection_changes mode_0 clock unsteady_select 11 ≡ 3
+unfolding mode_0 clock unsteady_select edges_at_selection_changes
+selection_changes = refl
+
+-- up to 3 it falls at one
+selection_begins : edges_at_selection_changes mode_0 clock unsteady_select 3 ≡ 1
+unfolding mode_0 clock unsteady_select edges_at_selection_changes
+selection_begins = refl
+
+-- up to 5 it rises at another
+selection_ends : edges_at_selection_changes mode_0 clock unsteady_select 5 ≡ 2
+unfolding mode_0 clock unsteady_select edges_at_selection_changes
+selection_ends = refl
+
+-- in mode 1 the edges are where the clock falls: up to 9 at 6 and 8
+selection_changes_in_mode_1 : edges_at_selection_changes (spi_setup 1 8 Msb) clock unsteady_select 9 ≡ 2
+unfolding clock unsteady_select edges_at_selection_changes
+selection_changes_in_mode_1 = refl

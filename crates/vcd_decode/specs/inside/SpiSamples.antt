@@ -7,7 +7,7 @@ use Rattle.vcd_core.specs.Value.{same_letter}
 use Rattle.vcd_decode.specs.SpiSetup.{SpiSetup}
 use Rattle.vcd_decode.specs.Lines.{is_zero, is_one, is_unclear}
 use Rattle.vcd_decode.specs.inside.PartialWord.{line_bit}
-use Rattle.vcd_decode.specs.inside.SpiSetup.{is_present_and}
+use Rattle.vcd_decode.specs.inside.SpiSetup.{is_present_and, samples_at}
 use Rattle.vcd_decode.specs.inside.SpiParts.{samples_rising_edge}
 use Rattle.vcd_decode.specs.inside.SpiWords.{selects_chip, is_sampling}
 
@@ -53,3 +53,16 @@ abbrev pub is_change_before_sample : SpiSetup → BitEdge → Bool
 is_change_before_sample u e =
     shows_straight_change (line_bit e.before 1) (line_bit e.at 1) && selects_chip (line_bit e.at 3)
     && shows_waiting_level u.mode (line_bit e.at 0)
+
+-- ---- the changes of the chip select at edges
+
+-- whether the chip is selected either just before an edge or at it, but not at both
+abbrev pub changes_selection : BitEdge → Bool
+changes_selection e =
+    (selects_chip (line_bit e.before 3) && not (selects_chip (line_bit e.at 3)))
+    || (not (selects_chip (line_bit e.before 3)) && selects_chip (line_bit e.at 3))
+
+-- whether the clock has a sampling edge, and the chip select does so
+abbrev pub is_edge_at_selection_change : SpiSetup → BitEdge → Bool
+is_edge_at_selection_change u e =
+    samples_at u.mode (line_bit e.before 0) (line_bit e.at 0) && changes_selection e

@@ -10,7 +10,7 @@ use Rattle.vcd_core.specs.Value.{letter_at}
 use Rattle.vcd_core.proofs.shared.Outlines.{names_of_outline}
 use Rattle.vcd_decode.specs.Lines.{is_zero}
 use Rattle.vcd_decode.specs.SpiSamples.{unclear_samples, moving_samples}
-use Rattle.vcd_decode.specs.SpiSamples.{changes_after_samples, changes_before_samples}
+use Rattle.vcd_decode.specs.SpiSamples.{changes_after_samples, changes_before_samples, edges_at_selection_changes}
 use Rattle.vcd_decode.specs.SpiSetup.{SpiSetup}
 use Rattle.vcd_edit.specs.Effect.{signal_bit}
 use Rattle.vcd_edit.specs.OtherWaves.{OtherChanges, with_others, HaveOwn, waves_read}
@@ -38,10 +38,10 @@ use Rattle.vcd_script.specs.Remarks.{is_lost, lost_letters, lost_remark, fall_re
 use Rattle.vcd_script.specs.Remarks.{idle_remark, selected_text, selected_remark, bus_remarks, count_remark}
 use Rattle.vcd_script.specs.Remarks.{has_other_range, bit_text, rule_remarks, shorter_runs, shortest_run}
 use Rattle.vcd_script.specs.Remarks.{frame_ticks, short_runs_remark, long_runs_remark, frame_edges_remark}
-use Rattle.vcd_script.specs.Remarks.{samples_remarks}
+use Rattle.vcd_script.specs.Remarks.{samples_remarks, selection_changes_remark}
 use Rattle.vcd_script.specs.Remarks.{unfinished_text, unfinished_remark, remarks, remarks_text}
 use Rattle.vcd_script.specs.SpiRemarks.{unclear_text, moving_text, spikes_text, unselected_text, unselected_remark}
-use Rattle.vcd_script.specs.SpiRemarks.{changes_after_text, count_if_more}
+use Rattle.vcd_script.specs.SpiRemarks.{changes_after_text, count_if_more, selection_changes_text}
 use Rattle.vcd_script.specs.RemarksOfRun.{remarks_asked, line_remarks, RemarksWithOthers, RemarksOnHollow}
 use Rattle.vcd_script.specs.Run.{history_at, capture_at}
 use Rattle.vcd_script.proofs.script.CommandsOfOutline.{command_is_of_outline}
@@ -95,6 +95,13 @@ module _ (others : List OtherChanges) (c : Contents) where
   same_selection (Some k) own = λ i.
       if is_zero (letter_at (signal_value (same_signal others c k own.0 i) 0) 0) then selected_text ∷ [] else []
 
+  same_selection_changes : (u : SpiSetup) (clk : ℕ) (o : Option ℕ) → HaveOwn others (clk ∷ [])
+      → HaveOwn others (option_to_list o)
+      → selection_changes_remark replaced u clk o ≡ selection_changes_remark c u clk o
+  same_selection_changes u clk None own select = refl
+  same_selection_changes u clk (Some k) own select = λ i. count_remark selection_changes_text
+      (edges_at_selection_changes u (same_letters_of others c clk own i) (same_letters_of others c k select i) c.end)
+
   same_last_selection : (o : Option ℕ) → HaveOwn others (option_to_list o)
       → unfinished_remark replaced o ≡ unfinished_remark c o
   same_last_selection None own = refl
@@ -139,7 +146,8 @@ remarks_with_others others c (commands.Spi clk mosi miso cs setup) own =
     ++ same_samples others c setup clk cs (codes "MOSI") mosi (own.0, tt) last.1 first.0 i
     ++ same_samples others c setup clk cs (codes "MISO") miso (own.0, tt) last.1 first.1 i
     ++ same_line_if_there others c (codes "spi: CS") cs last.1 i ++ same_selection others c cs last.1 i
-    ++ same_unselected others c cs last.1 i ++ same_last_selection others c cs last.1 i
+    ++ same_unselected others c cs last.1 i
+    ++ same_selection_changes others c setup clk cs (own.0, tt) last.1 i ++ same_last_selection others c cs last.1 i
 remarks_with_others others c (commands.I2c scl sda) own = λ i.
     same_line others c true (codes "i2c: SCL") scl (own.0, tt) i
     ++ same_line others c true (codes "i2c: SDA") sda own.1 i ++ same_bus others c scl sda (own.0, tt) own.1 i

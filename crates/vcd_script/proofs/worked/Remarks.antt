@@ -1,28 +1,36 @@
 -- Worked cases: the remarks on commands.
-use Rattle.std.proofs.Common.{◌≡◌, refl}
+use Rattle.std.proofs.Common.{◌≡◌, ◌==◌, ◌&&◌, ◌||◌, Bool, if◌then◌else◌, refl, ap}
 use Rattle.std.specs.Prelude.{ℕ, List, [], ◌∷◌, ◌++◌, codes, pos, negsuc, Some, None, map, true, false}
 use Rattle.std.specs.Fmt.{digits}
+use Rattle.std.specs.List.{count_by, range_with_len}
+use Rattle.vcd_core.specs.declared.bit.Bit.{Bit}
 use Rattle.vcd_core.specs.declared.bit.Bit.TheVariants.{Zero, One, X, Z}
 use Rattle.vcd_core.specs.declared.wave.Change.{Change}
-use Rattle.vcd_core.specs.Contents.{SignalContents}
+use Rattle.vcd_core.specs.Contents.{Contents, SignalContents}
 use Rattle.vcd_core.specs.Wave.{change, value_from}
+use Rattle.vcd_decode.specs.declared.spi_setup.BitOrder.{BitOrder}
 use Rattle.vcd_decode.specs.declared.uart_setup.Parity.TheVariants as parities
 use Rattle.vcd_decode.specs.BusDoubts.{bits_after_stops, doubtful_acknowledges, ends_in_transfer, joint_edges}
 use Rattle.vcd_decode.specs.BusEvents.{bus_events}
 use Rattle.vcd_decode.specs.I2c.{bits_until}
 use Rattle.vcd_decode.specs.LastBits.{bits_after_last_byte}
-use Rattle.vcd_decode.specs.SpiSetup.{SpiSetup}
+use Rattle.vcd_decode.specs.Lines.{letter_before, is_zero, is_one}
+use Rattle.vcd_decode.specs.SpiSamples.{is_selection_change, edges_at_selection_changes}
+use Rattle.vcd_decode.specs.SpiSetup.{SpiSetup, spi_setup}
 use Rattle.vcd_decode.specs.Uart.{sample_offset, begun_frame, falls, frames, uart_annotations}
 use Rattle.vcd_decode.specs.UartEdges.{edges_amid_bits}
 use Rattle.vcd_decode.specs.UartSetup.{UartSetup, uart_setup}
 use Rattle.vcd_edit.specs.declared.edit.Edit.{Edit}
 use Rattle.vcd_edit.specs.declared.edit.Edit.TheVariants.{Invert, Shift, Cut, Deglitch}
+use Rattle.vcd_edit.specs.Effect.{signal_bit}
 use Rattle.vcd_edit.specs.EditFaults.{edit_fault}
 use Rattle.vcd_edit.proofs.worked.Records.{from, wire, capture, alone}
 use Rattle.vcd_journal.specs.declared.step.Step.TheVariants as steps
 use Rattle.vcd_script.specs.declared.script.command.Command.TheVariants as commands
 use Rattle.vcd_script.specs.Remarks.{runs_begun, greatest, stretches, edge_delays, has_fall, remarks}
 use Rattle.vcd_script.specs.Remarks.{short_runs_remark, long_runs_remark, frame_edges_remark, is_other_range}
+use Rattle.vcd_script.specs.Remarks.{count_remark}
+use Rattle.vcd_script.specs.SpiRemarks.{selection_changes_text}
 
 -- x up to the tick 1, pulses at 5, 7 and 9, and no change at 0
 abbrev rough : List Change
@@ -212,18 +220,57 @@ fitting_uart : frame_edges_remark (uart_setup 7 1 8 parities.None 1) 60 late_run
 unfolding sample_offset edges_amid_bits uart_annotations frames falls begun_frame value_from digits
 fitting_uart = refl
 
+-- a clock that stays 0 has no sampling edge, whichever the mode samples
+still_clock : ℕ → Bit
+still_clock = signal_bit (alone 20 (from 0 Zero ∷ [])) 0 0
+
+no_edge : (cs : ℕ → Bit) (rising : Bool)
+    → count_by (λ t. (if rising then is_zero (letter_before still_clock t) && is_one (still_clock t)
+    else is_one (letter_before still_clock t) && is_zero (still_clock t))
+    && is_selection_change (letter_before cs t) (cs t)) (range_with_len 0 21) ≡ 0
+unfolding still_clock value_from
+no_edge cs true = refl
+no_edge cs false = refl
+
+no_edge_of_mode : (setup : SpiSetup) (cs : ℕ → Bit) → edges_at_selection_changes setup still_clock cs 20 ≡ 0
+unfolding edges_at_selection_changes
+no_edge_of_mode setup cs = no_edge cs (setup.mode == 0 || setup.mode == 3)
+
 -- a chip that is selected at tick 0, one that is not selected before tick 1, and one without a CS
 selected_spi : (setup : SpiSetup) → remarks (alone 20 (from 0 Zero ∷ [])) (commands.Spi 0 None None (Some 0) setup)
     ≡ codes "spi: CS is 0 at tick 0: words are counted from there, and until CS is 1 they may be wrong"
     ∷ codes "spi: CS is 0 at the end: the last word or transfer may go on past it" ∷ []
-unfolding remarks runs_begun value_from digits
-selected_spi setup = refl
+unfolding remarks runs_begun value_from still_clock digits
+selected_spi setup = ap (λ count.
+    codes "spi: CS is 0 at tick 0: words are counted from there, and until CS is 1 they may be wrong"
+    ∷ count_remark selection_changes_text count
+    ++ codes "spi: CS is 0 at the end: the last word or transfer may go on past it" ∷ [])
+    (no_edge_of_mode setup still_clock)
 
-later_spi : (setup : SpiSetup)
-    → remarks (alone 20 (from 0 One ∷ from 1 Zero ∷ [])) (commands.Spi 0 None None (Some 0) setup)
+later_select : Contents
+later_select = capture 20 (wire (codes "clk") (from 0 Zero ∷ [])
+    ∷ wire (codes "cs") (from 0 One ∷ from 1 Zero ∷ []) ∷ [])
+
+later_spi : (setup : SpiSetup) → remarks later_select (commands.Spi 0 None None (Some 1) setup)
     ≡ codes "spi: CS is 0 at the end: the last word or transfer may go on past it" ∷ []
-unfolding remarks runs_begun value_from digits
-later_spi setup = refl
+unfolding remarks runs_begun value_from still_clock later_select digits
+later_spi setup = ap (λ count. count_remark selection_changes_text count
+    ++ codes "spi: CS is 0 at the end: the last word or transfer may go on past it" ∷ [])
+    (no_edge_of_mode setup (signal_bit later_select 1 0))
+
+-- a line that is CLK and CS at once falls at 1: there is a sampling edge in mode 1, and none in mode 0
+own_select : (bits : ℕ) (order : BitOrder)
+    → remarks (alone 20 (from 0 One ∷ from 1 Zero ∷ [])) (commands.Spi 0 None None (Some 0) (spi_setup 1 bits order))
+    ≡ codes "spi: sampling edges at whose tick CS changes, so that its new value counts: 1"
+    ∷ codes "spi: CS is 0 at the end: the last word or transfer may go on past it" ∷ []
+unfolding remarks runs_begun value_from edges_at_selection_changes digits
+own_select bits order = refl
+
+own_select_in_mode_0 : (bits : ℕ) (order : BitOrder)
+    → remarks (alone 20 (from 0 One ∷ from 1 Zero ∷ [])) (commands.Spi 0 None None (Some 0) (spi_setup 0 bits order))
+    ≡ codes "spi: CS is 0 at the end: the last word or transfer may go on past it" ∷ []
+unfolding remarks runs_begun value_from edges_at_selection_changes digits
+own_select_in_mode_0 bits order = refl
 
 spi_without_cs : (setup : SpiSetup) → remarks (alone 20 (from 0 Zero ∷ [])) (commands.Spi 0 None None None setup)
     ≡ codes "spi: without CS words are counted from tick 0: if one began before, all may be wrong" ∷ []

@@ -8,7 +8,7 @@ use Rattle.vcd_core.specs.Contents.{Contents}
 use Rattle.vcd_core.specs.Wave.{value_from}
 use Rattle.vcd_decode.specs.declared.spi_setup.BitOrder.TheVariants.{Msb}
 use Rattle.vcd_decode.specs.SpiSamples.{unclear_samples, moving_samples}
-use Rattle.vcd_decode.specs.SpiSamples.{changes_after_samples, changes_before_samples}
+use Rattle.vcd_decode.specs.SpiSamples.{changes_after_samples, changes_before_samples, edges_at_selection_changes}
 use Rattle.vcd_decode.specs.SpiSetup.{spi_setup}
 use Rattle.vcd_edit.proofs.worked.Records.{from, wire, capture}
 use Rattle.vcd_script.specs.declared.script.command.Command.TheVariants as commands
@@ -31,14 +31,14 @@ spoilt = from 0 One ∷ from 2 Zero ∷ from 4 Z ∷ from 5 One ∷ from 8 Zero 
 
 clear_samples : remarks (lines tri_state) (commands.Spi 0 None (Some 1) (Some 2) (spi_setup 0 3 Msb)) ≡ []
 unfolding remarks runs_begun least ticks_between value_from unclear_samples moving_samples
-    changes_after_samples changes_before_samples lines tri_state digits
+    changes_after_samples changes_before_samples edges_at_selection_changes lines tri_state digits
 clear_samples = refl
 
 spoilt_samples : remarks (lines spoilt) (commands.Spi 0 (Some 1) None (Some 2) (spi_setup 0 3 Msb))
     ≡ codes "spi: samples at which MOSI is x or z: 1"
     ∷ codes "spi: samples at whose tick MOSI changes, so that its new value counts (is MODE right?): 2" ∷ []
 unfolding remarks runs_begun least ticks_between value_from unclear_samples moving_samples
-    changes_after_samples changes_before_samples lines spoilt digits
+    changes_after_samples changes_before_samples edges_at_selection_changes lines spoilt digits
 spoilt_samples = refl
 
 -- where CS is 1 or z nothing is sampled
@@ -46,7 +46,7 @@ unselected : remarks (lines spoilt) (commands.Spi 0 (Some 1) None (Some 3) (spi_
     ≡ codes "spi: CS is x or z at 5-9: edges and bits there are lost"
     ∷ codes "spi: CS is never 0: nothing is selected" ∷ []
 unfolding remarks runs_begun least ticks_between value_from unclear_samples moving_samples
-    changes_after_samples changes_before_samples lines spoilt digits
+    changes_after_samples changes_before_samples edges_at_selection_changes lines spoilt digits
 unselected = refl
 
 -- a clock that rises at 3, 9 and 15 and falls at 6, 12 and 18, and a data line; the chip is selected from 1 to 18
@@ -62,7 +62,7 @@ late = from 0 Zero ∷ from 4 One ∷ from 10 Zero ∷ from 16 One ∷ []
 -- in mode 1 it is sampled where the clock falls, after its changes
 late_in_its_mode : remarks (slow_lines late) (commands.Spi 0 None (Some 1) (Some 2) (spi_setup 1 3 Msb)) ≡ []
 unfolding remarks runs_begun least ticks_between value_from unclear_samples moving_samples
-    changes_after_samples changes_before_samples
+    changes_after_samples changes_before_samples edges_at_selection_changes
     slow_lines late digits
 late_in_its_mode = refl
 
@@ -71,7 +71,7 @@ late_in_another_mode : remarks (slow_lines late) (commands.Spi 0 (Some 1) (Some 
     ≡ codes "spi: MOSI changes after samples rather than before them (is MODE right?): 3"
     ∷ codes "spi: MISO changes after samples rather than before them (is MODE right?): 3" ∷ []
 unfolding remarks runs_begun least ticks_between value_from unclear_samples moving_samples
-    changes_after_samples changes_before_samples
+    changes_after_samples changes_before_samples edges_at_selection_changes
     slow_lines late digits
 late_in_another_mode = refl
 
@@ -81,7 +81,7 @@ even = from 0 Zero ∷ from 4 One ∷ from 8 Zero ∷ []
 
 evenly_late : remarks (slow_lines even) (commands.Spi 0 None (Some 1) (Some 2) (spi_setup 0 3 Msb)) ≡ []
 unfolding remarks runs_begun least ticks_between value_from unclear_samples moving_samples
-    changes_after_samples changes_before_samples
+    changes_after_samples changes_before_samples edges_at_selection_changes
     slow_lines even digits
 evenly_late = refl
 
@@ -92,5 +92,20 @@ spike = from 0 Zero ∷ from 8 One ∷ from 10 Zero ∷ []
 spike_at_a_sample : remarks (slow_lines spike) (commands.Spi 0 (Some 1) None (Some 2) (spi_setup 0 3 Msb))
     ≡ codes "spi: runs of MOSI shorter than each of CLK, such as spikes: 1" ∷ []
 unfolding remarks runs_begun least ticks_between value_from unclear_samples moving_samples
-    changes_after_samples changes_before_samples slow_lines spike digits
+    changes_after_samples changes_before_samples edges_at_selection_changes slow_lines spike digits
 spike_at_a_sample = refl
+
+-- CS falls at 3 and rises at 9, both as the clock rises
+joint_lines : Contents
+joint_lines = capture 20 (wire (codes "clk") (from 0 Zero ∷ from 3 One ∷ from 6 Zero ∷ from 9 One ∷ from 12 Zero
+    ∷ from 15 One ∷ from 18 Zero ∷ []) ∷ wire (codes "cs") (from 0 One ∷ from 3 Zero ∷ from 9 One ∷ []) ∷ [])
+
+cs_at_edges : remarks joint_lines (commands.Spi 0 None None (Some 1) (spi_setup 0 3 Msb))
+    ≡ codes "spi: sampling edges at whose tick CS changes, so that its new value counts: 2" ∷ []
+unfolding remarks runs_begun least ticks_between value_from edges_at_selection_changes joint_lines digits
+cs_at_edges = refl
+
+-- in mode 1 the edges are where the clock falls
+cs_at_other_edges : remarks joint_lines (commands.Spi 0 None None (Some 1) (spi_setup 1 3 Msb)) ≡ []
+unfolding remarks runs_begun least ticks_between value_from edges_at_selection_changes joint_lines digits
+cs_at_other_edges = refl

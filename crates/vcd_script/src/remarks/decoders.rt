@@ -19,7 +19,9 @@ use crate::remarks::frame_edges::append_frame_edges_remark;
 use crate::remarks::places::{DecoderLine, append_lost_remark};
 use crate::remarks::run_lengths::{append_long_runs_remark, append_short_runs_remark, spikes_of};
 use crate::remarks::runs::changes_at;
-use crate::remarks::samples::{append_samples_remarks, append_unselected_remark, samples_of};
+use crate::remarks::samples::{
+    append_samples_remarks, append_selection_changes_remark, append_unselected_remark, samples_of,
+};
 use crate::replies::MemoryResult;
 use vcd_core::Capture;
 use vcd_decode::{Spi, Uart};
@@ -78,7 +80,34 @@ pub fn append_spi_remarks(
         ++ optional_line_remark (contents capture.now) (codes "spi: CS") cs
         ++ spec.selected_remark (contents capture.now) cs
         ++ unselected_remark (contents capture.now) cs
+        ++ spec.selection_changes_remark (contents capture.now) setup.now clk cs
         ++ spec.unfinished_remark (contents capture.now) cs)) }
+{
+    append_clk_and_data_remarks(text, capture, number, clk, mosi, miso, cs, setup)?;
+    append_cs_remarks(text, capture, number, clk, cs, setup)?;
+    Ok(())
+}
+
+/// Appends the remarks on the CLK, MOSI and MISO of `spi`.
+fn append_clk_and_data_remarks(
+    text: &mut Vec<u8>,
+    capture: &Capture,
+    number: u64,
+    clk: usize,
+    mosi: Option<usize>,
+    miso: Option<usize>,
+    cs: Option<usize>,
+    setup: &Spi,
+) -> MemoryResult<()>
+    requires sound { IsSound (contents capture.now) }
+    requires clk { IsScalarAt (contents capture.now) clk }
+    requires mosi { IfSome mosi (IsScalarAt (contents capture.now)) }
+    requires miso { IfSome miso (IsScalarAt (contents capture.now)) }
+    requires cs { IfSome cs (IsScalarAt (contents capture.now)) }
+    ensures { OnOk result (text.new.items ≡ text.old.items ++ remarks_text number
+        (line_remark (contents capture.now) false (codes "spi: CLK") clk
+        ++ samples_remarks (contents capture.now) setup.now clk cs (codes "MOSI") mosi
+        ++ samples_remarks (contents capture.now) setup.now clk cs (codes "MISO") miso)) }
 {
     append_line_remark(text, capture, number, b"spi: CLK", clk)?;
     append_samples_remarks(
@@ -95,7 +124,6 @@ pub fn append_spi_remarks(
         samples_of(capture, clk, miso, cs, setup),
         spikes_of(capture, clk, miso),
     )?;
-    append_cs_remarks(text, capture, number, cs)?;
     Ok(())
 }
 
@@ -104,18 +132,24 @@ fn append_cs_remarks(
     text: &mut Vec<u8>,
     capture: &Capture,
     number: u64,
+    clk: usize,
     cs: Option<usize>,
+    setup: &Spi,
 ) -> MemoryResult<()>
-    requires { IfSome cs (IsScalarAt (contents capture.now)) }
+    requires sound { IsSound (contents capture.now) }
+    requires clk { IsScalarAt (contents capture.now) clk }
+    requires cs { IfSome cs (IsScalarAt (contents capture.now)) }
     ensures { OnOk result (text.new.items ≡ text.old.items ++ remarks_text number
         (optional_line_remark (contents capture.now) (codes "spi: CS") cs
         ++ spec.selected_remark (contents capture.now) cs
         ++ unselected_remark (contents capture.now) cs
+        ++ spec.selection_changes_remark (contents capture.now) setup.now clk cs
         ++ spec.unfinished_remark (contents capture.now) cs)) }
 {
     append_optional_remark(text, capture, number, b"spi: CS", cs)?;
     append_selected_remark(text, capture, number, cs)?;
     append_unselected_remark(text, capture, number, cs)?;
+    append_selection_changes_remark(text, capture, number, clk, cs, setup)?;
     append_unfinished_remark(text, capture, number, cs)?;
     Ok(())
 }

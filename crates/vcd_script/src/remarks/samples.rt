@@ -1,4 +1,5 @@
-//! The remarks on the samples of the data lines of `spi`, and on a chip that is never selected.
+//! The remarks on the samples of the data lines of `spi`, on a chip that is never selected, and on
+//! edges at which CS changes.
 
 ghost use Rattle.std.specs.Prelude.{◌≡◌, ◌++◌, [], ◌∷◌, if◌then◌else◌, Some, OnOk, IfSome};
 ghost use Rattle.std.specs.List.{list_any};
@@ -7,17 +8,17 @@ ghost use Rattle.vcd_core.specs.Sound.{IsSound};
 ghost use Rattle.vcd_core.specs.Value.{letter_at};
 ghost use Rattle.vcd_decode.specs.Lines.{is_zero};
 ghost use Rattle.vcd_script.specs.CommandSignals.{IsScalarAt};
-ghost use Rattle.vcd_script.specs.Remarks.{remarks_text, count_remark};
+ghost use Rattle.vcd_script.specs.Remarks.{remarks_text, count_remark, selection_changes_remark};
 ghost use Rattle.vcd_script.specs.SpiRemarks as spec;
 ghost use Rattle.vcd_script.specs.SpiRemarks.{unclear_text, moving_text, spikes_text};
 ghost use Rattle.vcd_script.specs.SpiRemarks.{changes_after_text, count_if_more};
 
-use crate::remarks::appending::append_remark_head;
+use crate::remarks::appending::{append_count_remark, append_remark_head};
 use crate::remarks::runs::{changes_at, letter_of};
 use crate::replies::appending::{append_bytes, append_decimal};
 use crate::replies::{MemoryResult, scalar_wave, wave_or_absent};
 use vcd_core::{Bit, Capture, Change};
-use vcd_decode::{LineSamples, Spi, spi_line_samples};
+use vcd_decode::{LineSamples, Spi, spi_edges_at_selection_changes, spi_line_samples};
 
 /// The samples of a data line; none of one that is absent.
 pub fn samples_of(
@@ -211,4 +212,53 @@ fn is_to_zero(change: &Change) -> bool
     ensures { result ≡ is_zero (letter_at change.now.value 0) }
 {
     letter_of(change) == Bit::Zero
+}
+
+/// Appends the remark on sampling edges at which CS changes.
+pub fn append_selection_changes_remark(
+    text: &mut Vec<u8>,
+    capture: &Capture,
+    number: u64,
+    clk: usize,
+    cs: Option<usize>,
+    setup: &Spi,
+) -> MemoryResult<()>
+    requires sound { IsSound (contents capture.now) }
+    requires clk { IsScalarAt (contents capture.now) clk }
+    requires cs { IfSome cs (IsScalarAt (contents capture.now)) }
+    ensures { OnOk result (text.new.items ≡ text.old.items ++ remarks_text number
+        (selection_changes_remark (contents capture.now) setup.now clk cs)) }
+{
+    append_count_remark(
+        text,
+        number,
+        b"spi: sampling edges at whose tick CS changes, so that its new value counts: ",
+        selection_changes_of(capture, clk, cs, setup),
+    )
+}
+
+/// At how many sampling edges CS changes; none if it is absent.
+fn selection_changes_of(capture: &Capture, clk: usize, cs: Option<usize>, setup: &Spi) -> u64
+    requires sound { IsSound (contents capture.now) }
+    requires clk { IsScalarAt (contents capture.now) clk }
+    requires cs { IfSome cs (IsScalarAt (contents capture.now)) }
+    ensures { result ≡ spec.selection_changes_count (contents capture.now) setup.now clk cs }
+{
+    match cs {
+        Some(signal) => selection_changes_at(capture, clk, signal, setup),
+        None => 0,
+    }
+}
+
+/// At how many sampling edges the CS at a position changes.
+fn selection_changes_at(capture: &Capture, clk: usize, signal: usize, setup: &Spi) -> u64
+    requires sound { IsSound (contents capture.now) }
+    requires clk { IsScalarAt (contents capture.now) clk }
+    requires cs { IsScalarAt (contents capture.now) signal }
+    ensures { result
+        ≡ spec.selection_changes_count (contents capture.now) setup.now clk (Some signal) }
+{
+    let clk = scalar_wave(capture, clk);
+    let cs = scalar_wave(capture, signal);
+    spi_edges_at_selection_changes(clk, cs, capture.end(), setup)
 }
