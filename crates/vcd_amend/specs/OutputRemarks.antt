@@ -107,6 +107,13 @@ traces_remark names = names_remark
     (codes "removed, but their time stamps stay, and scopes, comments, marks, namesakes and copies"
     ++ codes " under other codes may tell of them") names
 
+-- the line on what of the ticks that are cut is no stamp and no change, and stays, with a line feed
+-- (10) at its end
+abbrev pub commands_at_cuts_remark : List ℕ
+commands_at_cuts_remark =
+    codes "output: comments, dump words and other commands at the ticks that are cut, if any, stay"
+    ++ 10 ∷ []
+
 -- the remark on events that cuts leave out
 abbrev pub events_remark : (names : List (List ℕ)) → List ℕ
 events_remark names =
@@ -119,6 +126,7 @@ abbrev pub output_remarks : Amendment → List VariableDeclaration → (is_cut :
 output_remarks a ds is_cut = apart_remark (map declared_name (left_apart a ds))
     ++ removed_remark (map declared_name (removed_apart a ds))
     ++ traces_remark (map declared_name (removed_variables a ds))
+    ++ (if is_cut then commands_at_cuts_remark else [])
     ++ (if is_cut then events_remark (map declared_name (events_left_out ds)) else [])
 
 -- the remarks on the output of a run of lines on what a file of these pieces means

@@ -26,8 +26,8 @@ use vcd_core::{NoMemory, Word};
 
 /// The remarks on the output of a run, by the variables that the file declares, what is done to it,
 /// and the cuts in force: which variables of one code differ from now on, which are removed, but
-/// another variable of the same code stays, which are removed at all, and which events the cuts
-/// leave out. Each is a line with at most five names.
+/// another variable of the same code stays, which are removed at all, and what the cuts leave, and
+/// which events they leave out. Each is a line, with at most five names.
 ///
 /// It goes over the variables at most twice for each kind of remark, and looks up a code for each.
 /// It holds a target for each code, a fate for each variable, and the names of the remarks.
@@ -43,6 +43,7 @@ pub fn output_remarks(
 {
     let mut text = Vec::new(alloc);
     append_code_remarks(&mut text, alloc, declared, amendment)?;
+    append_commands_at_cuts(&mut text, cuts)?;
     append_cut_remark(&mut text, alloc, declared, cuts)?;
     Ok(text)
 }
@@ -93,6 +94,21 @@ fn append_cut_remark(
         b"events at the ticks that are cut, if any, are left out",
         events.as_slice(),
     )
+}
+
+/// Appends the line on comments and the like at the ticks that are cut, if there are cuts.
+fn append_commands_at_cuts(text: &mut Vec<u8>, cuts: &[CutTicks]) -> Result<(), NoMemory>
+    ensures { OnOk result (text.new.items ≡ text.old.items
+        ++ (if not (length cuts.now == 0) then spec.commands_at_cuts_remark else [])) }
+{
+    if cuts.is_empty() {
+        return Ok(());
+    }
+    text.extend_from_slice(
+        b"output: comments, dump words and other commands at the ticks that are cut, if any, \
+        stay\n",
+    )?;
+    Ok(())
 }
 
 /// Appends the remark on variables of these names, which share codes, but differ from now on.

@@ -28,6 +28,8 @@ pub struct VariableChoice<'m, 'a> {
     /// How many variables are kept, of how many.
     pub kept: u64,
     pub all: u64,
+    /// How many meet neither a pattern to keep, if there are such patterns, nor one to remove.
+    pub left_out_by_keep: u64,
     /// The full names of the variables to remove, in the order of the file.
     pub removed_names: Vec<Word>,
     /// The same, with their codes.
@@ -51,6 +53,7 @@ impl<'m, 'a> VariableChoice<'m, 'a> {
             remove: Patterns::new(alloc, request.remove)?,
             kept: 0,
             all: 0,
+            left_out_by_keep: 0,
             removed_names: Vec::new(alloc),
             removed: Vec::new(alloc),
             events: Vec::new(alloc),
@@ -92,6 +95,8 @@ impl<'m, 'a> VariableChoice<'m, 'a> {
         self.scopes.note(scopes, is_kept)?;
         self.kept = count(self.kept, is_kept);
         self.all = self.all.saturating_add(1);
+        let is_left_out_by_keep = is_left_out_by_keep(is_kept, is_removed);
+        self.left_out_by_keep = count(self.left_out_by_keep, is_left_out_by_keep);
         Ok(is_kept)
     }
 
@@ -137,6 +142,14 @@ fn is_kept(is_among_kept: bool, is_removed: bool) -> bool
     ensures { result ≡ (is_among_kept && not is_removed) }
 {
     is_among_kept && !is_removed
+}
+
+/// Whether a variable that is kept, or not, and to be removed, or not, is left out by the patterns
+/// to keep alone.
+fn is_left_out_by_keep(is_kept: bool, is_removed: bool) -> bool
+    ensures { result ≡ (not is_kept && not is_removed) }
+{
+    !is_kept && !is_removed
 }
 
 /// Whether a variable of this kind, which is kept or not, is an event that is kept.

@@ -19,6 +19,13 @@ left_traces_remark names = names_remark
     (codes "removed, but scopes, comments, marks, time stamps, namesakes and copies under other"
     ++ codes " codes may tell of them") names
 
+-- the remark on variables that are left out because they meet no pattern to keep: what is none of
+-- their changes stays
+abbrev pub left_out_by_keep_remark : WrittenPart → List ℕ
+left_out_by_keep_remark w = if nat_lt 0 w.left_out_by_keep then line_with_number
+    (codes "output: variables that --keep leaves out, of which scopes, comments, marks, time stamps"
+    ++ codes " and copies under other codes may tell: ") w.left_out_by_keep else []
+
 -- the remark on the comments and other commands that stay
 abbrev pub comments_remark : WrittenPart → List ℕ
 comments_remark w = if nat_lt 0 w.comments then line_with_number
@@ -37,5 +44,5 @@ first_events_remark names =
 -- all remarks on a part
 abbrev pub part_remarks : WrittenPart → List ℕ
 part_remarks w = early_end_remark w ++ removed_remark (map (λ v. v.name) w.still_shown)
-    ++ left_traces_remark w.removed ++ scopes_remark w.emptied_scopes ++ comments_remark w
-    ++ first_events_remark (map (λ v. v.name) w.events_left_out_at_first)
+    ++ left_traces_remark w.removed ++ left_out_by_keep_remark w ++ scopes_remark w.emptied_scopes
+    ++ comments_remark w ++ first_events_remark (map (λ v. v.name) w.events_left_out_at_first)

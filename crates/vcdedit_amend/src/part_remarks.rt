@@ -44,6 +44,7 @@ fn part_remarks(alloc: Global, written: &WrittenPart) -> Result<Vec<u8>, NoMemor
     let names = names_of(alloc, written.still_shown.as_slice())?;
     append_removed_remark(&mut text, names.as_slice())?;
     append_left_traces(&mut text, written.removed.as_slice())?;
+    append_left_out_by_keep(&mut text, written)?;
     append_scopes(&mut text, written.emptied_scopes.as_slice())?;
     append_comments(&mut text, written)?;
     let events = names_of(alloc, written.events_left_out_at_first.as_slice())?;
@@ -75,6 +76,22 @@ fn append_left_traces(text: &mut Vec<u8>, names: &[Word]) -> Result<(), NoMemory
         codes may tell of them",
         names,
     )
+}
+
+/// Appends the remark on the variables that are left out because they meet no pattern to keep.
+fn append_left_out_by_keep(text: &mut Vec<u8>, written: &WrittenPart) -> Result<(), NoMemory>
+    ensures { OnOk result
+        (text.new.items ≡ text.old.items ++ spec.left_out_by_keep_remark written.now) }
+{
+    if written.left_out_by_keep > 0 {
+        return append_line_with_number(
+            text,
+            b"output: variables that --keep leaves out, of which scopes, comments, marks, time \
+            stamps and copies under other codes may tell: ",
+            written.left_out_by_keep,
+        );
+    }
+    Ok(())
 }
 
 /// Appends the remark on the comments and other commands that stay.

@@ -50,7 +50,8 @@ unfolding name_in
 without_cuts = refl
 
 with_cuts : output_remarks amendment declared true
-    ≡ apart ++ codes "output: events at the ticks that are cut, if any, are left out: top.go" ++ 10 ∷ []
+    ≡ apart ++ codes "output: comments, dump words and other commands at the ticks that are cut, if any, stay"
+    ++ 10 ∷ [] ++ codes "output: events at the ticks that are cut, if any, are left out: top.go" ++ 10 ∷ []
 unfolding name_in
 with_cuts = refl
 

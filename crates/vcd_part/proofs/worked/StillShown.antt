@@ -25,7 +25,7 @@ without pattern = record {
 abbrev wire : (name code : List ℕ) → VariableDeclaration
 wire name code = record { scopes = []; kind = codes "wire"; size = 1; code = code; words = name ∷ [] }
 
-abbrev wires : List VariableDeclaration
+abbrev pub wires : List VariableDeclaration
 wires = wire (codes "clk") (codes "!") ∷ wire (codes "rx") (codes "#") ∷ wire (codes "clk2") (codes "!") ∷ []
 
 -- a removed one that shares its code with a kept one is still shown

@@ -57,6 +57,7 @@ pub said_of_part : (m : PartAmender) (window : Option TickRange) (early : Bool) 
       ends_early = early;
       removed = names;
       still_shown = shown;
+      left_out_by_keep = m.choice.left_out_by_keep;
       comments = m.comments;
       emptied_scopes = emptied;
       events_left_out_at_first = events;
@@ -69,6 +70,7 @@ said_of_part m (Some w) early names shown events emptied later early_is later_is
     let tick = seen.known.tick in
     let noted = seen.known.noted in
     let counts = seen.comments in
+    let left_out = noted.left_out_by_keep in
     let are : shown ≡ map named_variable (still_shown m.request s.declared) =
     shown_is m.request s.declared seen.known.uses
     ∙ ap (filter (λ (v : NamedVariable). is_used m.request s.declared v.code)) noted.removed
@@ -87,6 +89,7 @@ said_of_part m (Some w) early names shown events emptied later early_is later_is
       ends_early = early i;
       removed = names i;
       still_shown = are i;
+      left_out_by_keep = left_out i;
       comments = counts i;
       emptied_scopes = scopes i;
       events_left_out_at_first = left i;
