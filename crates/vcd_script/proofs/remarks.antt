@@ -7,7 +7,8 @@ pub mod StretchesFound
 pub mod ShortRunsLeft
 pub mod PlacesShown
 pub mod FallsLeft
-pub mod ShortestRun
+pub mod LevelRuns
+pub mod ChangesTakenOut
 pub mod AllRuns
 pub mod NoFrame
 pub mod IdleLines

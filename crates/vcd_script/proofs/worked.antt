@@ -2,4 +2,5 @@
 pub mod HollowRun
 pub mod Remarks
 pub mod SpiRemarks
+pub mod ClockRuns
 pub mod NameRemarks

@@ -12,6 +12,8 @@ pub mod Queries
 pub mod CommandSignals
 pub mod DecoderReply
 pub mod Reply
+pub mod ValueRuns
+pub mod ClockRuns
 pub mod SpiRemarks
 pub mod Remarks
 pub mod RemarkLaws

@@ -16,8 +16,8 @@ use Rattle.vcd_decode.specs.UartSetup.{UartSetup}
 use Rattle.vcd_decode.specs.Uart.{falls}
 use Rattle.vcd_script.specs.CommandSignals.{IsScalarAt}
 use Rattle.vcd_script.specs.DecoderReply.{uart_lines}
-use Rattle.vcd_script.specs.Remarks.{ValueRun, value_runs, is_pulse, delays_after_pulses, has_fall}
-use Rattle.vcd_script.specs.Remarks.{frame_ticks, idle_remark}
+use Rattle.vcd_script.specs.Remarks.{delays_after_pulses, has_fall, frame_ticks, idle_remark}
+use Rattle.vcd_script.specs.ValueRuns.{ValueRun, value_runs, is_pulse}
 
 -- these are the runs of one value at the ticks `from` to `end`: they follow one another, each has
 -- its value at each of its ticks, and the tick after it another

@@ -1,7 +1,7 @@
 -- What there is to say of a command beyond its reply: what an edit takes out of a signal, where a
 -- decoder can't read its lines, what of it may have begun before tick 0, and what of a bus is not
 -- decoded or may be wrong. The project's own.
-use Rattle.std.specs.Prelude.{ℕ, zero, suc, ◌+◌, ◌-◌, ◌*◌, ◌==◌, ◌&&◌, ◌||◌, nat_lt, nat_le, ℤ}
+use Rattle.std.specs.Prelude.{ℕ, zero, ◌+◌, ◌-◌, ◌*◌, ◌==◌, ◌&&◌, ◌||◌, nat_lt, nat_le, ℤ}
 use Rattle.std.specs.Prelude.{int_lt, pos, ◌+ℤ◌, unsigned_abs, min}
 use Rattle.std.specs.Prelude.{max, Bool, true, false, not, if◌then◌else◌, Option, Some, None}
 use Rattle.std.specs.Prelude.{is_some, List, [], ◌∷◌, ◌++◌, map, take, drop, length, codes, nat_eq}
@@ -15,7 +15,6 @@ use Rattle.vcd_core.specs.declared.bit.Bit.{Bit}
 use Rattle.vcd_core.specs.declared.bit.Bit.TheVariants.{X, Z}
 use Rattle.vcd_core.specs.declared.wave.Change.{Change}
 use Rattle.vcd_core.specs.Value.{all_x, letter_at, same_letters}
-use Rattle.vcd_core.specs.Wave.{change}
 use Rattle.vcd_core.specs.Contents.{Contents, SignalContents, signal_at, signal_value}
 use Rattle.vcd_decode.specs.BusDoubts.{bits_after_stops, doubtful_acknowledges, ends_in_transfer}
 use Rattle.vcd_decode.specs.BusDoubts.{joint_edges}
@@ -28,7 +27,8 @@ use Rattle.vcd_decode.specs.Uart.{last_bit, sample_offset, uart_annotations}
 use Rattle.vcd_decode.specs.UartEdges.{edges_amid_bits}
 use Rattle.vcd_decode.specs.UartSetup.{UartSetup}
 use Rattle.vcd_edit.specs.declared.edit.Edit.{Edit}
-use Rattle.vcd_edit.specs.declared.edit.Edit.TheVariants.{Invert, Shift, Cut, Deglitch, Derive}
+use Rattle.vcd_edit.specs.declared.edit.Edit.TheVariants.{Invert, Shift, Cut, Deglitch, Force}
+use Rattle.vcd_edit.specs.declared.edit.Edit.TheVariants.{Remove, Derive}
 use Rattle.vcd_edit.specs.declared.edit.Rule.{Rule}
 use Rattle.vcd_edit.specs.declared.edit.Rule.TheVariants.{BitOf}
 use Rattle.vcd_edit.specs.Effect.{signal_bit}
@@ -36,54 +36,14 @@ use Rattle.vcd_edit.specs.EditFaults.{edit_fault}
 use Rattle.vcd_journal.specs.declared.step.Step.TheVariants as steps
 use Rattle.vcd_script.specs.declared.script.command.Command.{Command}
 use Rattle.vcd_script.specs.declared.script.command.Command.TheVariants as commands
+use Rattle.vcd_script.specs.ClockRuns.{brief_runs, brief_high_runs, half_period}
+use Rattle.vcd_script.specs.ValueRuns.{ValueRun, value_runs, ticks_of_run, is_pulse, shorter_runs}
 use Rattle.vcd_script.specs.SpiRemarks.{unclear_text, moving_text, unclear_count, moving_count}
 use Rattle.vcd_script.specs.SpiRemarks.{changes_after_text, count_if_more, changes_after_count}
 use Rattle.vcd_script.specs.SpiRemarks.{changes_before_count, spikes_text, unselected_remark}
 use Rattle.vcd_script.specs.SpiRemarks.{selection_changes_text, selection_changes_count}
 
--- ---- runs of one value
-
--- a run of one value of a signal: its first and its last tick
-pub record ValueRun : Type 0 where
-  pub first : ℕ
-  pub last : ℕ
-  pub value : List Bit
-
--- the last tick before these changes, in a capture up to this end
-abbrev pub tick_before : (end : ℕ) → List Change → ℕ
-tick_before end [] = end
-tick_before end (c ∷ cs) = c.tick - 1
-
--- the run that a change begins, given the changes after it
-abbrev pub run_begun : (end : ℕ) → Change → (later : List Change) → ValueRun
-run_begun end c later =
-    record { first = c.tick; last = tick_before end later; value = c.value }
-
--- the runs that changes begin
-unfoldable pub runs_begun : (end : ℕ) → List Change → List ValueRun
-runs_begun end [] = []
-runs_begun end (c ∷ cs) = run_begun end c cs ∷ runs_begun end cs
-
--- the changes of a signal from tick 0 on, where it is x unless a change gives it a value
-abbrev pub changes_from_zero : (width : ℕ) → List Change → List Change
-changes_from_zero width [] = change 0 (all_x width) ∷ []
-changes_from_zero width (c ∷ cs) =
-    if c.tick == 0 then c ∷ cs else change 0 (all_x width) ∷ c ∷ cs
-
--- all runs of a signal
-abbrev pub value_runs : (end : ℕ) → SignalContents → List ValueRun
-value_runs end s = runs_begun end (changes_from_zero s.width s.changes)
-
 -- ---- edits
-
--- how many ticks a run has
-abbrev pub ticks_of_run : ValueRun → ℕ
-ticks_of_run r = r.last - r.first + 1
-
--- whether `deglitch` takes a run out: it contains neither tick 0 nor the end, and has fewer ticks.
--- That is, its ticks are not steady (`Effect` of vcd_edit)
-abbrev pub is_pulse : (ticks end : ℕ) → ValueRun → Bool
-is_pulse ticks end r = nat_lt 0 r.first && nat_lt r.last end && nat_lt (ticks_of_run r) ticks
 
 -- the greatest of some numbers, 0 if there is none
 unfoldable pub greatest : List ℕ → ℕ
@@ -194,6 +154,35 @@ abbrev pub invert_remarks : List Change → List (List ℕ)
 invert_remarks changes = count_remark (codes "invert: changes with z, which becomes x: ")
     (count_by (λ c. list_any is_z c.value) changes)
 
+-- what is said of the signals after a removed one, from the position `next` on
+abbrev pub earlier_text : (next : ℕ) → List ℕ
+earlier_text next = codes "remove: signals from @" ++ decimal next
+    ++ codes " on are one position earlier from here on"
+
+-- the remark on a `remove` of the signal at a position, of so many; none of the last one
+abbrev pub remove_remarks : (k count : ℕ) → List (List ℕ)
+remove_remarks k count = if nat_lt (k + 1) count then earlier_text (k + 1) ∷ [] else []
+
+-- whether a change is one no more once its signal has a value from one tick up to but not including
+-- another; `before` is the value before the change
+abbrev pub is_change_taken_out : (from to : ℕ) → (value before : List Bit) → Change → Bool
+is_change_taken_out from to value before c = same_letters
+    (if nat_le from c.tick && nat_lt c.tick to then value else c.value)
+    (if nat_lt from c.tick && nat_le c.tick to then value else before)
+
+-- how many of these changes are; `before` is the value before the first
+unfoldable pub changes_taken_out : (from to : ℕ) → (value before : List Bit) → List Change → ℕ
+changes_taken_out from to value before [] = 0
+changes_taken_out from to value before (c ∷ cs) =
+    (if is_change_taken_out from to value before c then 1 else 0)
+    + changes_taken_out from to value c.value cs
+
+-- the remark on a `force`; none if it takes out no change
+abbrev pub force_remarks : (from to : ℕ) → (value : List Bit) → SignalContents → List (List ℕ)
+force_remarks from to value s =
+    count_remark (codes "force: changes taken out, whose time stamps stay: ")
+    (changes_taken_out from to value (all_x s.width) s.changes)
+
 -- whether a `:` (58) comes behind the last `[` (91) of a word
 abbrev pub has_colon_in_brackets : List ℕ → Bool
 has_colon_in_brackets word = list_any (λ bracket. list_any (λ b. b == 58) (drop bracket word))
@@ -248,6 +237,8 @@ edit_remarks (Deglitch k ticks) c =
     deglitch_remarks ticks c.end (value_runs c.end (signal_at c k))
 edit_remarks (Shift k by) c = shift_remarks c.end by (signal_at c k).changes
 edit_remarks (Invert k) c = invert_remarks (signal_at c k).changes
+edit_remarks (Remove k) c = remove_remarks k (length c.signals)
+edit_remarks (Force k from to value) c = force_remarks from to value (signal_at c k)
 edit_remarks (Cut from to) c = cut_remark from (to - from) ∷ []
 edit_remarks (Derive word rule) c = rule_remarks rule c
 edit_remarks e c = []
@@ -284,7 +275,7 @@ places_text runs = join_by (λ r. place_text r.first r.last) (codes ", ") (take 
 abbrev pub lost_remark : (line letters : List ℕ) → List ValueRun → List (List ℕ)
 lost_remark line letters [] = []
 lost_remark line letters runs = (line ++ codes " is " ++ letters ++ codes " at "
-    ++ places_text runs ++ codes ": edges and bits there are lost") ∷ []
+    ++ places_text runs ++ codes ": edges and bits there, if any, are lost") ∷ []
 
 -- whether 0 comes right after 1 among letters, given the one before them
 unfoldable pub has_fall : (before : Bit) → List Bit → Bool
@@ -322,35 +313,19 @@ idle_remark ticks end s =
 abbrev pub sixths_of_bit : (count : ℕ) → UartSetup → ℕ
 sixths_of_bit count u = div_ceil (count * u.numerator) (6 * u.denominator)
 
--- how many runs of a signal have fewer ticks, and contain neither tick 0 nor the end
-abbrev pub shorter_runs : (ticks end : ℕ) → SignalContents → ℕ
-shorter_runs ticks end s = length (filter (is_pulse ticks end) (value_runs end s))
-
 -- the remark on such runs of a line that are shorter than two thirds of a bit; none without any
 abbrev pub short_runs_remark : UartSetup → (end : ℕ) → SignalContents → List (List ℕ)
 short_runs_remark u end s =
     count_remark (codes "uart: runs of fewer ticks than two thirds of a bit, such as spikes: ")
     (shorter_runs (sixths_of_bit 4 u) end s)
 
--- the lesser of two numbers above 0; the other one if one is 0
-abbrev pub lesser : (m n : ℕ) → ℕ
-lesser zero n = n
-lesser (suc m) zero = suc m
-lesser (suc m) (suc n) = min (suc m) (suc n)
+-- the text before the number of runs of CLK that are
+abbrev pub clk_text : List ℕ
+clk_text = codes "spi: runs of CLK much shorter than others, such as spikes: "
 
--- the least of those of some numbers that are above 0; 0 if there is none
-unfoldable pub least : List ℕ → ℕ
-least [] = 0
-least (n ∷ ns) = lesser n (least ns)
-
--- the ticks from one change to the next, the first from this tick on
-unfoldable pub ticks_between : (before : ℕ) → List Change → List ℕ
-ticks_between before [] = []
-ticks_between before (c ∷ cs) = (c.tick - before) ∷ ticks_between c.tick cs
-
--- how many ticks the shortest run of a signal has, but for that at the end; 0 if there is none
-abbrev pub shortest_run : SignalContents → ℕ
-shortest_run s = least (ticks_between 0 s.changes)
+-- the same for SCL
+abbrev pub scl_text : List ℕ
+scl_text = codes "i2c: runs of SCL much shorter than others, such as spikes: "
 
 -- whether a line falls, and has runs that contain neither tick 0 nor the end, none of fewer ticks
 abbrev pub has_long_runs : (ticks end : ℕ) → SignalContents → Bool
@@ -434,12 +409,20 @@ module _ (c : Contents) where
   optional_line_remark line None = []
   optional_line_remark line (Some k) = line_remark false line k
 
-  -- how many runs of a data line at a position are shorter than each of CLK, but contain neither
-  -- tick 0 nor the end; none if it is absent
+  -- the remark on the runs of CLK at a position that are much shorter than others
+  abbrev pub clk_remark : ℕ → List (List ℕ)
+  clk_remark k = count_remark clk_text (brief_runs c.end (signal_at c k))
+
+  -- the same for SCL, where it is not low
+  abbrev pub scl_remark : ℕ → List (List ℕ)
+  scl_remark k = count_remark scl_text (brief_high_runs c.end (signal_at c k))
+
+  -- how many runs of a data line at a position are shorter than half a period of CLK, but contain
+  -- neither tick 0 nor the end; none if it is absent
   abbrev pub spike_count : (clk : ℕ) → (line : Option ℕ) → ℕ
   spike_count clk None = 0
   spike_count clk (Some k) =
-      shorter_runs (shortest_run (signal_at c clk)) c.end (signal_at c k)
+      shorter_runs (half_period c.end (signal_at c clk)) c.end (signal_at c k)
 
   -- the remarks on the samples of a data line of `spi`
   abbrev pub samples_remarks : SpiSetup → (clk : ℕ) → (cs : Option ℕ) → (name : List ℕ)
@@ -467,6 +450,11 @@ module _ (c : Contents) where
   unfinished_remark (Some k) =
       if is_zero (signal_bit c k 0 c.end) then unfinished_text ∷ [] else []
 
+  -- all remarks on CS
+  abbrev pub cs_remarks : SpiSetup → (clk : ℕ) → Option ℕ → List (List ℕ)
+  cs_remarks u clk cs = optional_line_remark (codes "spi: CS") cs ++ selected_remark cs
+      ++ unselected_remark c cs ++ selection_changes_remark u clk cs ++ unfinished_remark cs
+
 -- ---- all commands
 
 -- the remarks on a command that is carried out on a capture; none on an edit that is refused
@@ -480,14 +468,12 @@ remarks c (commands.Uart k setup) =
     ++ long_runs_remark setup c.end (signal_at c k)
     ++ frame_edges_remark setup c.end (signal_at c k)
 remarks c (commands.Spi clk mosi miso cs setup) =
-    line_remark c false (codes "spi: CLK") clk
+    line_remark c false (codes "spi: CLK") clk ++ clk_remark c clk
     ++ samples_remarks c setup clk cs (codes "MOSI") mosi
-    ++ samples_remarks c setup clk cs (codes "MISO") miso
-    ++ optional_line_remark c (codes "spi: CS") cs
-    ++ selected_remark c cs ++ unselected_remark c cs
-    ++ selection_changes_remark c setup clk cs ++ unfinished_remark c cs
+    ++ samples_remarks c setup clk cs (codes "MISO") miso ++ cs_remarks c setup clk cs
 remarks c (commands.I2c scl sda) =
     line_remark c true (codes "i2c: SCL") scl ++ line_remark c true (codes "i2c: SDA") sda
+    ++ scl_remark c scl
     ++ bus_remarks (signal_bit c scl 0) (signal_bit c sda 0) c.end
 remarks c command = []
 

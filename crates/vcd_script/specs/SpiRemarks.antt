@@ -1,6 +1,6 @@
 -- What there is to say of the samples of `spi`: how many of a data line are x or z, at how many it
--- changes, that it changes after them, that its chip is never selected, and at how many sampling
--- edges CS changes. The project's own.
+-- changes, that it changes after them, that it has spikes, that its chip is never selected, and
+-- that CS changes at a sampling edge. The project's own.
 use Rattle.std.specs.Prelude.{ℕ, Option, Some, None, List, [], ◌∷◌, ◌++◌, if◌then◌else◌, codes}
 use Rattle.std.specs.Prelude.{nat_lt}
 use Rattle.std.specs.List.{list_any}
@@ -32,10 +32,10 @@ changes_after_text line = codes "spi: " ++ line
 abbrev pub count_if_more : (after before : ℕ) → ℕ
 count_if_more after before = if nat_lt before after then after else 0
 
--- the text before the number of runs of a data line that are shorter than each of CLK
+-- the text before the number of runs of a data line that are shorter than half a period of CLK
 abbrev pub spikes_text : (line : List ℕ) → List ℕ
 spikes_text line = codes "spi: runs of " ++ line
-    ++ codes " shorter than each of CLK, such as spikes: "
+    ++ codes " shorter than half a period of CLK, such as spikes: "
 
 -- the text of the remark on a CS that is never 0
 abbrev pub unselected_text : List ℕ

@@ -30,6 +30,11 @@ pub fn tell_held_part<R: Eprint>(rt: &R, options: &Options<'_, '_>) {
             "output: lines and replies have the ticks of the part, which count from --from"
         );
     }
+    if options.script.is_some() && (options.keep.is_some() || options.remove.is_some()) {
+        let _ = eprintln!(rt;
+            "output: lines and replies number the signals of the part, of which @0 is the first"
+        );
+    }
     if options.is_marked && (options.keep.is_some() || options.remove.is_some()) {
         let _ = eprintln!(rt; "output: the mark has not the --keep and --remove of the part");
     }

@@ -8,7 +8,7 @@ use Rattle.vcd_core.specs.Value.{all_x}
 use Rattle.vcd_core.specs.Wave.{change, value_from, AreChangesFrom, AllUpTo}
 use Rattle.vcd_core.specs.Contents.{no_signal}
 use Rattle.vcd_core.proofs.shared.Waves.{value_past, value_early}
-use Rattle.vcd_script.specs.Remarks.{runs_begun, changes_from_zero}
+use Rattle.vcd_script.specs.ValueRuns.{runs_begun, changes_from_zero}
 use Rattle.vcd_script.specs.RemarkLaws.{AreRunsFrom, ValueRunsAreAll}
 
 -- those that a change and the changes after it begin

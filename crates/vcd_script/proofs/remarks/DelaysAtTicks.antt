@@ -14,7 +14,8 @@ use Rattle.vcd_edit.specs.declared.edit.Edit.TheVariants.{Deglitch}
 use Rattle.vcd_edit.specs.Effect.{is_steady, effect}
 use Rattle.vcd_edit.specs.EffectLaws.{value_of}
 use Rattle.vcd_edit.proofs.shared.RunsOfOneValue.{steady_here}
-use Rattle.vcd_script.specs.Remarks.{ValueRun, is_pulse, value_runs, edge_delay, edge_delays}
+use Rattle.vcd_script.specs.Remarks.{edge_delay, edge_delays}
+use Rattle.vcd_script.specs.ValueRuns.{ValueRun, is_pulse, value_runs}
 use Rattle.vcd_script.specs.RemarkLaws.{AreRunsFrom, IsTakenOutIfPulse, PulsesAreTakenOut}
 use Rattle.vcd_script.specs.RemarkLaws.{unsteady_before, delay_at, DelaysAreAll}
 use Rattle.vcd_script.proofs.remarks.AllRuns.{value_runs_are_all}

@@ -10,9 +10,9 @@ use Rattle.vcd_core.specs.Value.{all_x, same_letters}
 use Rattle.vcd_core.specs.Wave.{change}
 use Rattle.vcd_core.specs.Contents.{Contents, signal_at}
 use Rattle.vcd_script.specs.declared.remarks.pulses.Spans.{Spans}
-use Rattle.vcd_script.specs.Remarks.{ValueRun, tick_before, run_begun, runs_begun, changes_from_zero, value_runs}
-use Rattle.vcd_script.specs.Remarks.{is_pulse, greatest, edge_delay, edge_delays}
-use Rattle.vcd_script.specs.Remarks.{delays_after_pulses, delays_remark}
+use Rattle.vcd_script.specs.Remarks.{greatest, edge_delay, edge_delays, delays_after_pulses, delays_remark}
+use Rattle.vcd_script.specs.ValueRuns.{ValueRun, tick_before, run_begun, runs_begun, changes_from_zero, value_runs}
+use Rattle.vcd_script.specs.ValueRuns.{is_pulse}
 use Rattle.vcd_script.specs.inside.remarks.Parts.{pulse_ticks, with_span, run_until, delay_of, delays_after}
 use Rattle.vcd_script.specs.inside.remarks.Parts.{delays_lines}
 use Rattle.vcd_script.proofs.remarks.RunsLeft.{no_runs_left, staying, staying_left, first_stays, if_pulse}

@@ -13,8 +13,8 @@ use Rattle.vcd_decode.specs.Lines.{is_zero, is_one, letter_before}
 use Rattle.vcd_decode.specs.Uart.{falls}
 use Rattle.vcd_edit.specs.Effect.{signal_bit}
 use Rattle.vcd_edit.specs.EffectLaws.{value_of}
-use Rattle.vcd_script.specs.Remarks.{has_fall, is_idle_first, frame_text, idle_remark, runs_begun, changes_from_zero}
-use Rattle.vcd_script.specs.Remarks.{ValueRun, value_runs, ticks_of_run, frame_ticks}
+use Rattle.vcd_script.specs.Remarks.{has_fall, is_idle_first, frame_text, idle_remark, frame_ticks}
+use Rattle.vcd_script.specs.ValueRuns.{runs_begun, changes_from_zero, ValueRun, value_runs, ticks_of_run}
 use Rattle.vcd_script.specs.RemarkLaws.{AreRunsFrom, FallsAfterFrame}
 use Rattle.vcd_script.proofs.remarks.AllRuns.{value_runs_are_all}
 use Rattle.vcd_script.proofs.remarks.NoFrame.{no_fall}

@@ -12,8 +12,8 @@ use Rattle.std.proofs.lemmas.List.{append-nil}
 use Rattle.vcd_core.specs.declared.wave.Change.{Change}
 use Rattle.vcd_core.specs.Contents.{Contents, signal_at}
 use Rattle.vcd_script.specs.declared.remarks.places.DecoderLine.{DecoderLine}
-use Rattle.vcd_script.specs.Remarks.{ValueRun, run_begun, runs_begun, changes_from_zero, tick_before, place_text}
-use Rattle.vcd_script.specs.Remarks.{lost_letters, lost_remark, line_remark, more_text, remarks_text}
+use Rattle.vcd_script.specs.Remarks.{place_text, lost_letters, lost_remark, line_remark, more_text, remarks_text}
+use Rattle.vcd_script.specs.ValueRuns.{ValueRun, run_begun, runs_begun, changes_from_zero, tick_before}
 use Rattle.vcd_script.specs.inside.remarks.Parts.{is_lost_run, if_lost, begins_at_zero, numbered_place, lost_head}
 use Rattle.vcd_script.specs.inside.remarks.Parts.{lost_end, lost_from}
 use Rattle.vcd_script.proofs.remarks.RunsLeft.{runs_left, no_runs_left, x_first}
@@ -128,7 +128,7 @@ remark_of_places line (r ∷ rs) =
     ap (λ l. (lost_head line ++ place) ++ l) (others_shown (lost_head line) 0 (length rs) rs (omega arith))
     ∙ regrouped (codes "line " ++ decimal line.number ++ codes ": ") line.name.now (codes " is ")
     (lost_letters line.z_is_one) (codes " at ") place others (more_text (suc (length rs) - 5))
-    (codes ": edges and bits there are lost") (10 ∷ [])
+    (codes ": edges and bits there, if any, are lost") (10 ∷ [])
 
 -- on a line of a capture
 pub remark_on_line : (c : Contents) (z_is_one : Bool) (name : List ℕ) (k end : ℕ) (cs : List Change) → end ≡ c.end

@@ -7,8 +7,9 @@ use Rattle.vcd_core.specs.Value.{all_x}
 use Rattle.vcd_core.specs.Wave.{change}
 use Rattle.vcd_core.specs.Contents.{Contents, signal_at}
 use Rattle.vcd_script.specs.declared.remarks.pulses.Spans.{Spans}
-use Rattle.vcd_script.specs.Remarks.{ValueRun, run_begun, runs_begun, changes_from_zero, is_pulse, ticks_of_run}
-use Rattle.vcd_script.specs.Remarks.{greatest, deglitch_remark, value_runs, shorter_runs}
+use Rattle.vcd_script.specs.Remarks.{greatest, deglitch_remark}
+use Rattle.vcd_script.specs.ValueRuns.{ValueRun, run_begun, runs_begun, changes_from_zero, is_pulse, ticks_of_run}
+use Rattle.vcd_script.specs.ValueRuns.{value_runs, shorter_runs}
 use Rattle.vcd_script.specs.inside.remarks.Parts.{pulse_ticks, with_span, pulses_text}
 use Rattle.vcd_script.proofs.remarks.RunsLeft.{runs_left, no_runs_left}
 

@@ -12,7 +12,7 @@ use Rattle.vcd_edit.specs.Effect.{effect}
 use Rattle.vcd_edit.specs.EditFaults.{edit_fault}
 use Rattle.vcd_edit.specs.EffectLaws.{value_of}
 use Rattle.vcd_edit.specs.Laws.{DeglitchKeepsLongRuns, DeglitchFillsShortRuns}
-use Rattle.vcd_script.specs.Remarks.{ValueRun, is_pulse, ticks_of_run, value_runs}
+use Rattle.vcd_script.specs.ValueRuns.{ValueRun, is_pulse, ticks_of_run, value_runs}
 use Rattle.vcd_script.specs.RemarkLaws.{AreRunsFrom, IsTakenOutIfPulse, PulsesAreTakenOut}
 use Rattle.vcd_script.proofs.remarks.AllRuns.{value_runs_are_all}
 

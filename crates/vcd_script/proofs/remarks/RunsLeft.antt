@@ -9,7 +9,7 @@ use Rattle.vcd_core.specs.declared.wave.Change.{Change}
 use Rattle.vcd_core.specs.Value.{all_x}
 use Rattle.vcd_core.specs.Wave.{change}
 use Rattle.vcd_edit.proofs.shared.Lists.{drop_here}
-use Rattle.vcd_script.specs.Remarks.{ValueRun, run_begun, runs_begun, changes_from_zero, is_pulse, ticks_of_run}
+use Rattle.vcd_script.specs.ValueRuns.{ValueRun, run_begun, runs_begun, changes_from_zero, is_pulse, ticks_of_run}
 use Rattle.vcd_script.specs.inside.remarks.Parts.{begins_at_zero, pulse_ticks}
 
 -- a change is left

@@ -8,8 +8,8 @@ use Rattle.vcd_core.specs.declared.wave.Change.{Change}
 use Rattle.vcd_core.specs.Value.{all_x}
 use Rattle.vcd_core.specs.Wave.{change}
 use Rattle.vcd_core.specs.Contents.{Contents, signal_at}
-use Rattle.vcd_script.specs.Remarks.{ValueRun, tick_before, run_begun, runs_begun, changes_from_zero, stays_short}
-use Rattle.vcd_script.specs.Remarks.{value_runs}
+use Rattle.vcd_script.specs.Remarks.{stays_short}
+use Rattle.vcd_script.specs.ValueRuns.{ValueRun, tick_before, run_begun, runs_begun, changes_from_zero, value_runs}
 use Rattle.vcd_script.specs.inside.remarks.Parts.{begins_at_zero, run_until, x_stays_short}
 use Rattle.vcd_script.proofs.remarks.RunsLeft.{runs_left, no_runs_left, no_x_first, x_first}
 

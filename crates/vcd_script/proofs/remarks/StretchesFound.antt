@@ -8,8 +8,9 @@ use Rattle.vcd_core.specs.declared.wave.Change.{Change}
 use Rattle.vcd_core.specs.Value.{all_x}
 use Rattle.vcd_core.specs.Wave.{change}
 use Rattle.vcd_core.specs.Contents.{Contents, signal_at}
-use Rattle.vcd_script.specs.Remarks.{ValueRun, tick_before, run_begun, runs_begun, changes_from_zero, value_runs}
-use Rattle.vcd_script.specs.Remarks.{is_pulse, greatest, stretches, longest_stretch}
+use Rattle.vcd_script.specs.Remarks.{greatest, stretches, longest_stretch}
+use Rattle.vcd_script.specs.ValueRuns.{ValueRun, tick_before, run_begun, runs_begun, changes_from_zero, value_runs}
+use Rattle.vcd_script.specs.ValueRuns.{is_pulse}
 use Rattle.vcd_script.specs.inside.remarks.Parts.{pulse_ticks, run_until, stretches_after}
 use Rattle.vcd_script.proofs.remarks.RunsLeft.{no_runs_left, staying, staying_left, first_stays, if_pulse}
 

@@ -7,7 +7,7 @@ use Rattle.std.specs.Option.{option_to_list}
 use Rattle.vcd_core.specs.Contents.{Contents, signal_value}
 use Rattle.vcd_core.specs.Names.{full_names}
 use Rattle.vcd_core.specs.Value.{letter_at}
-use Rattle.vcd_core.proofs.shared.Outlines.{names_of_outline}
+use Rattle.vcd_core.proofs.shared.Outlines.{count_in_outline, names_of_outline}
 use Rattle.vcd_decode.specs.Lines.{is_zero}
 use Rattle.vcd_decode.specs.SpiSamples.{unclear_samples, moving_samples}
 use Rattle.vcd_decode.specs.SpiSamples.{changes_after_samples, changes_before_samples, edges_at_selection_changes}
@@ -15,7 +15,7 @@ use Rattle.vcd_decode.specs.SpiSetup.{SpiSetup}
 use Rattle.vcd_edit.specs.Effect.{signal_bit}
 use Rattle.vcd_edit.specs.OtherWaves.{OtherChanges, with_others, HaveOwn, waves_read}
 use Rattle.vcd_edit.specs.declared.edit.Edit.{Edit}
-use Rattle.vcd_edit.specs.declared.edit.Edit.TheVariants.{Invert, Shift, Deglitch, Derive}
+use Rattle.vcd_edit.specs.declared.edit.Edit.TheVariants.{Invert, Shift, Deglitch, Remove, Force, Derive}
 use Rattle.vcd_edit.specs.declared.edit.Rule.{Rule}
 use Rattle.vcd_edit.specs.declared.edit.Rule.TheVariants.{BitOf}
 use Rattle.vcd_edit.specs.Effect.{formula}
@@ -33,13 +33,16 @@ use Rattle.vcd_script.specs.declared.script.line_error.LineError.{LineError}
 use Rattle.vcd_script.specs.ScriptCommands.{command_of_line}
 use Rattle.vcd_script.specs.HollowRun.{waves_asked, origins_of_line}
 use Rattle.vcd_script.specs.NameRemarks.{signals_of_command, name_remark, name_remarks}
-use Rattle.vcd_script.specs.Remarks.{value_runs, deglitch_remarks, shift_remarks, invert_remarks, edit_remarks}
+use Rattle.vcd_script.specs.ClockRuns.{half_period, brief_runs, brief_high_runs}
+use Rattle.vcd_script.specs.Remarks.{deglitch_remarks, shift_remarks, invert_remarks, force_remarks, edit_remarks}
 use Rattle.vcd_script.specs.Remarks.{is_lost, lost_letters, lost_remark, fall_remark, line_remark, optional_line_remark}
 use Rattle.vcd_script.specs.Remarks.{idle_remark, selected_text, selected_remark, bus_remarks, count_remark}
-use Rattle.vcd_script.specs.Remarks.{has_other_range, bit_text, rule_remarks, shorter_runs, shortest_run}
+use Rattle.vcd_script.specs.Remarks.{has_other_range, bit_text, rule_remarks, remove_remarks}
+use Rattle.vcd_script.specs.Remarks.{clk_remark, scl_remark, clk_text, scl_text}
 use Rattle.vcd_script.specs.Remarks.{frame_ticks, short_runs_remark, long_runs_remark, frame_edges_remark}
-use Rattle.vcd_script.specs.Remarks.{samples_remarks, selection_changes_remark}
-use Rattle.vcd_script.specs.Remarks.{unfinished_text, unfinished_remark, remarks, remarks_text}
+use Rattle.vcd_script.specs.Remarks.{samples_remarks, selection_changes_remark, unfinished_text, unfinished_remark}
+use Rattle.vcd_script.specs.Remarks.{remarks, remarks_text}
+use Rattle.vcd_script.specs.ValueRuns.{value_runs, shorter_runs}
 use Rattle.vcd_script.specs.SpiRemarks.{unclear_text, moving_text, spikes_text, unselected_text, unselected_remark}
 use Rattle.vcd_script.specs.SpiRemarks.{changes_after_text, count_if_more, selection_changes_text}
 use Rattle.vcd_script.specs.RemarksOfRun.{remarks_asked, line_remarks, RemarksWithOthers, RemarksOnHollow}
@@ -64,6 +67,12 @@ module _ (others : List OtherChanges) (c : Contents) where
   same_line_if_there line None own = refl
   same_line_if_there line (Some k) own = same_line false line k own
 
+  same_clk : (k : ℕ) → HaveOwn others (k ∷ []) → clk_remark replaced k ≡ clk_remark c k
+  same_clk k own = λ i. count_remark clk_text (brief_runs c.end (same_signal others c k own.0 i))
+
+  same_scl : (k : ℕ) → HaveOwn others (k ∷ []) → scl_remark replaced k ≡ scl_remark c k
+  same_scl k own = λ i. count_remark scl_text (brief_high_runs c.end (same_signal others c k own.0 i))
+
   -- the samples of a line, also if it is absent
   same_samples : (u : SpiSetup) (clk : ℕ) (cs : Option ℕ) (name : List ℕ) (line : Option ℕ) → HaveOwn others (clk ∷ [])
       → HaveOwn others (option_to_list cs) → HaveOwn others (option_to_list line)
@@ -80,7 +89,7 @@ module _ (others : List OtherChanges) (c : Contents) where
       (changes_before_samples u (same_letters_of others c clk own i)
       (same_letters_of others c k own_line i) (same_bits_if_there others c cs select i) c.end))
       ++ count_remark (spikes_text name)
-      (shorter_runs (shortest_run (same_signal others c clk own.0 i)) c.end (same_signal others c k own_line.0 i))
+      (shorter_runs (half_period c.end (same_signal others c clk own.0 i)) c.end (same_signal others c k own_line.0 i))
 
   same_unselected : (o : Option ℕ) → HaveOwn others (option_to_list o)
       → unselected_remark replaced o ≡ unselected_remark c o
@@ -120,11 +129,18 @@ module _ (others : List OtherChanges) (c : Contents) where
       if has_other_range (same_signal others c k own.0 i) then bit_text bit ∷ [] else []
   same_rule rule own = refl
 
+  same_count : length replaced.signals ≡ length c.signals
+  same_count =
+      sym (count_in_outline replaced) ∙ ap (λ (o : Contents). length o.signals) (others_keep_outline others c)
+      ∙ count_in_outline c
+
   same_edit : (e : Edit) → HaveOwn others (waves_read e) → edit_remarks e replaced ≡ edit_remarks e c
   same_edit (Deglitch k ticks) own = λ i.
       deglitch_remarks ticks c.end (value_runs c.end (same_signal others c k own.0 i))
   same_edit (Shift k by) own = λ i. shift_remarks c.end by (same_signal others c k own.0 i).changes
   same_edit (Invert k) own = λ i. invert_remarks (same_signal others c k own.0 i).changes
+  same_edit (Remove k) own = ap (remove_remarks k) same_count
+  same_edit (Force k from to value) own = λ i. force_remarks from to value (same_signal others c k own.0 i)
   same_edit (Derive word rule) own = same_rule rule own
   same_edit e own = refl
 
@@ -143,14 +159,16 @@ remarks_with_others others c (commands.Spi clk mosi miso cs setup) own =
     let last = all_split _ (option_to_list mosi ++ option_to_list miso) (option_to_list cs) own.1 in
     let first = all_split _ (option_to_list mosi) (option_to_list miso) last.0 in
     λ i. same_line others c false (codes "spi: CLK") clk (own.0, tt) i
+    ++ same_clk others c clk (own.0, tt) i
     ++ same_samples others c setup clk cs (codes "MOSI") mosi (own.0, tt) last.1 first.0 i
     ++ same_samples others c setup clk cs (codes "MISO") miso (own.0, tt) last.1 first.1 i
-    ++ same_line_if_there others c (codes "spi: CS") cs last.1 i ++ same_selection others c cs last.1 i
-    ++ same_unselected others c cs last.1 i
-    ++ same_selection_changes others c setup clk cs (own.0, tt) last.1 i ++ same_last_selection others c cs last.1 i
+    ++ (same_line_if_there others c (codes "spi: CS") cs last.1 i ++ same_selection others c cs last.1 i
+    ++ same_unselected others c cs last.1 i ++ same_selection_changes others c setup clk cs (own.0, tt) last.1 i
+    ++ same_last_selection others c cs last.1 i)
 remarks_with_others others c (commands.I2c scl sda) own = λ i.
     same_line others c true (codes "i2c: SCL") scl (own.0, tt) i
-    ++ same_line others c true (codes "i2c: SDA") sda own.1 i ++ same_bus others c scl sda (own.0, tt) own.1 i
+    ++ same_line others c true (codes "i2c: SDA") sda own.1 i ++ same_scl others c scl (own.0, tt) i
+    ++ same_bus others c scl sda (own.0, tt) own.1 i
 remarks_with_others others c command own = refl
 
 -- ---- the remarks on a line

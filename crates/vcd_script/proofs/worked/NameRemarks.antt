@@ -1,6 +1,6 @@
 -- Worked cases: the remarks on names that several signals have.
 use Rattle.std.proofs.Common.{◌≡◌, refl}
-use Rattle.std.specs.Prelude.{ℕ, List, [], ◌∷◌, codes}
+use Rattle.std.specs.Prelude.{ℕ, List, [], ◌∷◌, ◌++◌, codes}
 use Rattle.std.specs.Fmt.{digits}
 use Rattle.vcd_core.specs.Contents.{Contents}
 use Rattle.vcd_core.specs.Names.{name_in, lookup}
@@ -34,7 +34,8 @@ one_alone : remarks_on_line (codes "changes top.tx") ≡ []
 unfolding command_of_line words_of lookup name_in name_remarks remarks
 one_alone = refl
 
-removed : remarks_on_line (codes "remove top.rx") ≡ first_rx
+removed : remarks_on_line (codes "remove top.rx")
+    ≡ first_rx ++ codes "remove: signals from @1 on are one position earlier from here on" ∷ []
 unfolding command_of_line words_of lookup name_in name_remarks remarks edit_fault digits
 removed = refl
 

@@ -21,15 +21,17 @@ use Rattle.vcd_decode.specs.Uart.{sample_offset, begun_frame, falls, frames, uar
 use Rattle.vcd_decode.specs.UartEdges.{edges_amid_bits}
 use Rattle.vcd_decode.specs.UartSetup.{UartSetup, uart_setup}
 use Rattle.vcd_edit.specs.declared.edit.Edit.{Edit}
-use Rattle.vcd_edit.specs.declared.edit.Edit.TheVariants.{Invert, Shift, Cut, Deglitch}
+use Rattle.vcd_edit.specs.declared.edit.Edit.TheVariants.{Invert, Shift, Cut, Deglitch, Force, Remove}
 use Rattle.vcd_edit.specs.Effect.{signal_bit}
 use Rattle.vcd_edit.specs.EditFaults.{edit_fault}
 use Rattle.vcd_edit.proofs.worked.Records.{from, wire, capture, alone}
 use Rattle.vcd_journal.specs.declared.step.Step.TheVariants as steps
 use Rattle.vcd_script.specs.declared.script.command.Command.TheVariants as commands
-use Rattle.vcd_script.specs.Remarks.{runs_begun, greatest, stretches, edge_delays, has_fall, remarks}
-use Rattle.vcd_script.specs.Remarks.{short_runs_remark, long_runs_remark, frame_edges_remark, is_other_range}
-use Rattle.vcd_script.specs.Remarks.{count_remark}
+use Rattle.vcd_script.specs.ClockRuns.{least, count_from, doubled, raised, brief_runs, brief_high_runs}
+use Rattle.vcd_script.specs.Remarks.{greatest, stretches, edge_delays, has_fall, remarks, short_runs_remark}
+use Rattle.vcd_script.specs.Remarks.{long_runs_remark, frame_edges_remark, is_other_range, count_remark}
+use Rattle.vcd_script.specs.Remarks.{changes_taken_out}
+use Rattle.vcd_script.specs.ValueRuns.{runs_begun}
 use Rattle.vcd_script.specs.SpiRemarks.{selection_changes_text}
 
 -- x up to the tick 1, pulses at 5, 7 and 9, and no change at 0
@@ -54,6 +56,32 @@ three_pulses : remarks_on_edit (Deglitch 0 3) ≡ codes "deglitch: pulses remove
     ∷ codes "deglitch: short runs at tick 0 or the end, which stay: 1" ∷ []
 unfolding remarks edit_fault runs_begun greatest stretches edge_delays digits
 three_pulses = refl
+
+-- of the changes at 5, 7, 9, 10 and 15 those at 7 and 9 are within, the first is that of the forced value, and the one
+-- at 10 is to another value
+forced : remarks_on_edit (Force 0 5 10 (One ∷ [])) ≡ codes "force: changes taken out, whose time stamps stay: 2" ∷ []
+unfolding remarks edit_fault changes_taken_out digits
+forced = refl
+
+-- a mask from edge to edge takes out both
+masked : remarks_on_edit (Force 0 5 7 (Zero ∷ [])) ≡ codes "force: changes taken out, whose time stamps stay: 2" ∷ []
+unfolding remarks edit_fault changes_taken_out digits
+masked = refl
+
+unchanged : remarks_on_edit (Force 0 5 7 (One ∷ [])) ≡ []
+unfolding remarks edit_fault changes_taken_out digits
+unchanged = refl
+
+-- the positions after a removed signal go down; after the last there is none
+removed_first : remarks (capture 20 (wire (codes "a") [] ∷ wire (codes "b") [] ∷ []))
+    (commands.Step (steps.Edit (Remove 0)))
+    ≡ codes "remove: signals from @1 on are one position earlier from here on" ∷ []
+unfolding remarks edit_fault digits
+removed_first = refl
+
+removed_last : remarks_on_edit (Remove 0) ≡ []
+unfolding remarks edit_fault digits
+removed_last = refl
 
 no_pulse : remarks_on_edit (Deglitch 0 1) ≡ codes "deglitch: pulses removed: 0" ∷ []
 unfolding remarks edit_fault runs_begun greatest stretches edge_delays digits
@@ -162,7 +190,7 @@ not_idle = codes "uart: the line is not idle for a frame from tick 0 on: if one 
 
 -- a line of that shape falls at 7
 rough_uart : remarks (alone 20 rough) (commands.Uart 0 bytes)
-    ≡ codes "uart: the line is x or z at 0-1, 9: edges and bits there are lost" ∷ not_idle
+    ≡ codes "uart: the line is x or z at 0-1, 9: edges and bits there, if any, are lost" ∷ not_idle
     ∷ codes "uart: runs of fewer ticks than two thirds of a bit, such as spikes: 4" ∷ []
 unfolding remarks runs_begun has_fall sample_offset edges_amid_bits uart_annotations frames falls begun_frame value_from
     digits bytes
@@ -170,7 +198,7 @@ rough_uart = refl
 
 -- a line without a change
 silent_uart : (setup : UartSetup) → remarks (alone 20 []) (commands.Uart 0 setup)
-    ≡ codes "uart: the line is x or z at 0-20: edges and bits there are lost"
+    ≡ codes "uart: the line is x or z at 0-20: edges and bits there, if any, are lost"
     ∷ codes "uart: the line never falls from 1 to 0: no frame begins" ∷ []
 unfolding remarks runs_begun has_fall edges_amid_bits digits
 silent_uart setup = refl
@@ -240,7 +268,7 @@ no_edge_of_mode setup cs = no_edge cs (setup.mode == 0 || setup.mode == 3)
 selected_spi : (setup : SpiSetup) → remarks (alone 20 (from 0 Zero ∷ [])) (commands.Spi 0 None None (Some 0) setup)
     ≡ codes "spi: CS is 0 at tick 0: words are counted from there, and until CS is 1 they may be wrong"
     ∷ codes "spi: CS is 0 at the end: the last word or transfer may go on past it" ∷ []
-unfolding remarks runs_begun value_from still_clock digits
+unfolding remarks runs_begun least count_from doubled raised brief_runs value_from still_clock digits
 selected_spi setup = ap (λ count.
     codes "spi: CS is 0 at tick 0: words are counted from there, and until CS is 1 they may be wrong"
     ∷ count_remark selection_changes_text count
@@ -253,7 +281,7 @@ later_select = capture 20 (wire (codes "clk") (from 0 Zero ∷ [])
 
 later_spi : (setup : SpiSetup) → remarks later_select (commands.Spi 0 None None (Some 1) setup)
     ≡ codes "spi: CS is 0 at the end: the last word or transfer may go on past it" ∷ []
-unfolding remarks runs_begun value_from still_clock later_select digits
+unfolding remarks runs_begun least count_from doubled raised brief_runs value_from still_clock later_select digits
 later_spi setup = ap (λ count. count_remark selection_changes_text count
     ++ codes "spi: CS is 0 at the end: the last word or transfer may go on past it" ∷ [])
     (no_edge_of_mode setup (signal_bit later_select 1 0))
@@ -263,29 +291,29 @@ own_select : (bits : ℕ) (order : BitOrder)
     → remarks (alone 20 (from 0 One ∷ from 1 Zero ∷ [])) (commands.Spi 0 None None (Some 0) (spi_setup 1 bits order))
     ≡ codes "spi: sampling edges at whose tick CS changes, so that its new value counts: 1"
     ∷ codes "spi: CS is 0 at the end: the last word or transfer may go on past it" ∷ []
-unfolding remarks runs_begun value_from edges_at_selection_changes digits
+unfolding remarks runs_begun least count_from doubled raised brief_runs value_from edges_at_selection_changes digits
 own_select bits order = refl
 
 own_select_in_mode_0 : (bits : ℕ) (order : BitOrder)
     → remarks (alone 20 (from 0 One ∷ from 1 Zero ∷ [])) (commands.Spi 0 None None (Some 0) (spi_setup 0 bits order))
     ≡ codes "spi: CS is 0 at the end: the last word or transfer may go on past it" ∷ []
-unfolding remarks runs_begun value_from edges_at_selection_changes digits
+unfolding remarks runs_begun least count_from doubled raised brief_runs value_from edges_at_selection_changes digits
 own_select_in_mode_0 bits order = refl
 
 spi_without_cs : (setup : SpiSetup) → remarks (alone 20 (from 0 Zero ∷ [])) (commands.Spi 0 None None None setup)
     ≡ codes "spi: without CS words are counted from tick 0: if one began before, all may be wrong" ∷ []
-unfolding remarks runs_begun value_from digits
+unfolding remarks runs_begun least count_from doubled raised brief_runs value_from digits
 spi_without_cs setup = refl
 
 -- on I2C z is 1, and six places are shown as five and one more; SCL rises at 5, 9 and 15
 rough_i2c : remarks (capture 20 (wire (codes "scl") rough ∷ wire (codes "sda") (from 0 One ∷ from 2 X ∷ from 3 One
     ∷ from 4 X ∷ from 5 One ∷ from 6 X ∷ from 7 One ∷ from 8 X ∷ from 9 One ∷ from 11 X ∷ from 14 Z ∷ from 20 X ∷ [])
     ∷ [])) (commands.I2c 0 1)
-    ≡ codes "i2c: SCL is x at 0-1: edges and bits there are lost"
-    ∷ codes "i2c: SDA is x at 2, 4, 6, 8, 11-13, and 1 more: edges and bits there are lost"
+    ≡ codes "i2c: SCL is x at 0-1: edges and bits there, if any, are lost"
+    ∷ codes "i2c: SDA is x at 2, 4, 6, 8, 11-13, and 1 more: edges and bits there, if any, are lost"
     ∷ codes "i2c: bits before the first start or stop, which are not decoded: 3" ∷ []
 unfolding remarks runs_begun value_from bus_events bits_until bits_after_last_byte bits_after_stops digits
-    doubtful_acknowledges ends_in_transfer joint_edges
+    doubtful_acknowledges ends_in_transfer joint_edges least count_from doubled raised brief_high_runs
 rough_i2c = refl
 
 -- a bit before a stop, and one after it
@@ -294,7 +322,7 @@ stopped_i2c : remarks (capture 20 (wire (codes "scl") (from 0 Zero ∷ from 5 On
     ≡ codes "i2c: bits before the first start or stop, which are not decoded: 1"
     ∷ codes "i2c: bits after the last byte, which are not decoded: 1" ∷ []
 unfolding remarks runs_begun value_from bus_events bits_until bits_after_last_byte bits_after_stops digits
-    doubtful_acknowledges ends_in_transfer joint_edges
+    doubtful_acknowledges ends_in_transfer joint_edges least count_from doubled raised brief_high_runs
 stopped_i2c = refl
 
 -- ten bits after a start: a byte with its acknowledge, and one more
@@ -305,7 +333,7 @@ started_i2c : remarks (capture 30 (wire (codes "scl") (from 0 One ∷ from 3 Zer
     ≡ codes "i2c: bits after the last byte, which are not decoded: 1"
     ∷ codes "i2c: the last transfer has no stop" ∷ []
 unfolding remarks runs_begun value_from bus_events bits_until bits_after_last_byte bits_after_stops digits
-    doubtful_acknowledges ends_in_transfer joint_edges
+    doubtful_acknowledges ends_in_transfer joint_edges least count_from doubled raised brief_high_runs
 started_i2c = refl
 
 -- both lines fall at 3, after a stop, so that the start is lost
@@ -315,5 +343,5 @@ lost_start_i2c : remarks (capture 20 (wire (codes "scl") (from 0 One ∷ from 3 
     ≡ codes "i2c: bits after a stop and before the next start or stop, which are not decoded: 2"
     ∷ codes "i2c: ticks at which SCL and SDA change, so that a start or stop may be lost, or a bit be wrong: 1" ∷ []
 unfolding remarks runs_begun value_from bus_events bits_until bits_after_last_byte bits_after_stops digits
-    doubtful_acknowledges ends_in_transfer joint_edges
+    doubtful_acknowledges ends_in_transfer joint_edges least count_from doubled raised brief_high_runs
 lost_start_i2c = refl

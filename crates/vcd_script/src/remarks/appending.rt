@@ -59,3 +59,19 @@ pub fn append_more(text: &mut Vec<u8>, count: u64) -> MemoryResult<()>
     append_decimal(text, count)?;
     append_bytes(text, b" more")
 }
+
+/// Appends a number between two texts.
+pub fn append_decimal_between(
+    text: &mut Vec<u8>,
+    before: &[u8],
+    value: u64,
+    after: &[u8],
+) -> MemoryResult<()>
+    ensures { OnOk result (text.new.items
+        ≡ text.old.items ++ (before.now ++ decimal value ++ after.now)) }
+{
+    text.extend_from_slice(before)?;
+    append_decimal(text, value)?;
+    append_bytes(text, after)?;
+    Ok(())
+}

@@ -11,8 +11,8 @@ ghost use Rattle.vcd_decode.specs.Lines as lines_spec;
 ghost use Rattle.vcd_edit.specs.Effect.{signal_bit};
 ghost use Rattle.vcd_script.specs.CommandSignals.{IsScalarAt};
 ghost use Rattle.vcd_script.specs.Remarks as spec;
-ghost use Rattle.vcd_script.specs.Remarks.{remarks_text, frame_ticks, runs_begun};
-ghost use Rattle.vcd_script.specs.Remarks.{changes_from_zero};
+ghost use Rattle.vcd_script.specs.Remarks.{remarks_text, frame_ticks};
+ghost use Rattle.vcd_script.specs.ValueRuns.{runs_begun, changes_from_zero};
 
 use crate::remarks::appending::append_remark_head;
 use crate::remarks::runs::{changes_at, letter_of, tick_before};
@@ -83,7 +83,7 @@ fn begins_unclear(changes: &[Change], end: u64, ticks: u64) -> bool
 }
 
 /// Whether a line is 1 from tick 0 on for this many ticks.
-#[tactic(auto, unfolding(crate::specs::Remarks::runs_begun))]
+#[tactic(auto, unfolding(crate::specs::ValueRuns::runs_begun))]
 fn is_idle_first(changes: &[Change], end: u64, ticks: u64) -> bool
     ensures { result
         ≡ spec.is_idle_first ticks (runs_begun end (changes_from_zero 1 changes.now)) }

@@ -1,11 +1,10 @@
 //! The remark on a `cut`.
 
 ghost use Rattle.std.specs.Prelude.{◌≡◌, ◌-◌, ◌++◌, ◌∷◌, [], OnOk};
-ghost use Rattle.std.specs.Fmt.{decimal};
 ghost use Rattle.vcd_script.specs.Remarks as spec;
 ghost use Rattle.vcd_script.specs.Remarks.{remarks_text};
 
-use crate::remarks::appending::append_remark_head;
+use crate::remarks::appending::{append_decimal_between, append_remark_head};
 use crate::replies::MemoryResult;
 use crate::replies::appending::{append_bytes, append_decimal};
 
@@ -59,21 +58,5 @@ fn append_joined_at(text: &mut Vec<u8>, from: u64, fewer: u64) -> MemoryResult<(
         text,
         b" fewer from here on: what is decoded across the join may be wrong",
     )?;
-    Ok(())
-}
-
-/// Appends a number between two texts.
-fn append_decimal_between(
-    text: &mut Vec<u8>,
-    before: &[u8],
-    value: u64,
-    after: &[u8],
-) -> MemoryResult<()>
-    ensures { OnOk result (text.new.items
-        ≡ text.old.items ++ (before.now ++ decimal value ++ after.now)) }
-{
-    text.extend_from_slice(before)?;
-    append_decimal(text, value)?;
-    append_bytes(text, after)?;
     Ok(())
 }

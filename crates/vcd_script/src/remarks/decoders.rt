@@ -5,16 +5,18 @@ ghost use Rattle.vcd_core.specs.CaptureContents.{contents};
 ghost use Rattle.vcd_core.specs.Contents.{signal_at};
 ghost use Rattle.vcd_core.specs.Sound.{IsSound};
 ghost use Rattle.vcd_edit.specs.Effect.{signal_bit};
+ghost use Rattle.vcd_script.specs.ClockRuns as clocks;
 ghost use Rattle.vcd_script.specs.CommandSignals.{IsScalarAt};
 ghost use Rattle.vcd_script.specs.Remarks as spec;
 ghost use Rattle.vcd_script.specs.Remarks.{remarks_text, frame_ticks, line_remark};
 ghost use Rattle.vcd_script.specs.Remarks.{optional_line_remark, samples_remarks};
-ghost use Rattle.vcd_script.specs.SpiRemarks.{unselected_remark};
 
+use crate::remarks::appending::append_count_remark;
 use crate::remarks::beginnings::{
     append_fall_remark, append_idle_remark, append_selected_remark, append_unfinished_remark,
 };
 use crate::remarks::bus::append_bus_remarks;
+use crate::remarks::clock_runs::clock_runs_at;
 use crate::remarks::frame_edges::append_frame_edges_remark;
 use crate::remarks::places::{DecoderLine, append_lost_remark};
 use crate::remarks::run_lengths::{append_long_runs_remark, append_short_runs_remark, spikes_of};
@@ -75,13 +77,10 @@ pub fn append_spi_remarks(
     requires cs { IfSome cs (IsScalarAt (contents capture.now)) }
     ensures { OnOk result (text.new.items ≡ text.old.items ++ remarks_text number
         (line_remark (contents capture.now) false (codes "spi: CLK") clk
+        ++ spec.clk_remark (contents capture.now) clk
         ++ samples_remarks (contents capture.now) setup.now clk cs (codes "MOSI") mosi
         ++ samples_remarks (contents capture.now) setup.now clk cs (codes "MISO") miso
-        ++ optional_line_remark (contents capture.now) (codes "spi: CS") cs
-        ++ spec.selected_remark (contents capture.now) cs
-        ++ unselected_remark (contents capture.now) cs
-        ++ spec.selection_changes_remark (contents capture.now) setup.now clk cs
-        ++ spec.unfinished_remark (contents capture.now) cs)) }
+        ++ spec.cs_remarks (contents capture.now) setup.now clk cs)) }
 {
     append_clk_and_data_remarks(text, capture, number, clk, mosi, miso, cs, setup)?;
     append_cs_remarks(text, capture, number, clk, cs, setup)?;
@@ -106,23 +105,67 @@ fn append_clk_and_data_remarks(
     requires cs { IfSome cs (IsScalarAt (contents capture.now)) }
     ensures { OnOk result (text.new.items ≡ text.old.items ++ remarks_text number
         (line_remark (contents capture.now) false (codes "spi: CLK") clk
+        ++ spec.clk_remark (contents capture.now) clk
         ++ samples_remarks (contents capture.now) setup.now clk cs (codes "MOSI") mosi
         ++ samples_remarks (contents capture.now) setup.now clk cs (codes "MISO") miso)) }
 {
+    let clock = clock_runs_at(capture, clk);
+    append_clk_remarks(text, capture, number, clk, clock.brief)?;
+    let half = clock.half_period;
+    append_data_remarks(text, capture, number, clk, b"MOSI", mosi, cs, setup, half)?;
+    append_data_remarks(text, capture, number, clk, b"MISO", miso, cs, setup, half)?;
+    Ok(())
+}
+
+/// Appends the remarks on the data line of `spi` with this name, of whose clock this is half a
+/// period.
+fn append_data_remarks(
+    text: &mut Vec<u8>,
+    capture: &Capture,
+    number: u64,
+    clk: usize,
+    name: &[u8],
+    line: Option<usize>,
+    cs: Option<usize>,
+    setup: &Spi,
+    half_period: u64,
+) -> MemoryResult<()>
+    requires sound { IsSound (contents capture.now) }
+    requires clk { IsScalarAt (contents capture.now) clk }
+    requires line { IfSome line (IsScalarAt (contents capture.now)) }
+    requires cs { IfSome cs (IsScalarAt (contents capture.now)) }
+    requires half_period { half_period ≡ clocks.half_period (contents capture.now).end
+        (signal_at (contents capture.now) clk) }
+    ensures { OnOk result (text.new.items ≡ text.old.items ++ remarks_text number
+        (samples_remarks (contents capture.now) setup.now clk cs name.now line)) }
+{
+    let samples = samples_of(capture, clk, line, cs, setup);
+    let spikes = spikes_of(capture, line, half_period);
+    append_samples_remarks(text, number, name, samples, spikes)?;
+    Ok(())
+}
+
+/// Appends the remarks on the CLK of `spi`, of which so many runs are short.
+fn append_clk_remarks(
+    text: &mut Vec<u8>,
+    capture: &Capture,
+    number: u64,
+    clk: usize,
+    brief: u64,
+) -> MemoryResult<()>
+    requires clk { IsScalarAt (contents capture.now) clk }
+    requires brief { brief ≡ clocks.brief_runs (contents capture.now).end
+        (signal_at (contents capture.now) clk) }
+    ensures { OnOk result (text.new.items ≡ text.old.items ++ remarks_text number
+        (line_remark (contents capture.now) false (codes "spi: CLK") clk
+        ++ spec.clk_remark (contents capture.now) clk)) }
+{
     append_line_remark(text, capture, number, b"spi: CLK", clk)?;
-    append_samples_remarks(
+    append_count_remark(
         text,
         number,
-        b"MOSI",
-        samples_of(capture, clk, mosi, cs, setup),
-        spikes_of(capture, clk, mosi),
-    )?;
-    append_samples_remarks(
-        text,
-        number,
-        b"MISO",
-        samples_of(capture, clk, miso, cs, setup),
-        spikes_of(capture, clk, miso),
+        b"spi: runs of CLK much shorter than others, such as spikes: ",
+        brief,
     )?;
     Ok(())
 }
@@ -140,11 +183,7 @@ fn append_cs_remarks(
     requires clk { IsScalarAt (contents capture.now) clk }
     requires cs { IfSome cs (IsScalarAt (contents capture.now)) }
     ensures { OnOk result (text.new.items ≡ text.old.items ++ remarks_text number
-        (optional_line_remark (contents capture.now) (codes "spi: CS") cs
-        ++ spec.selected_remark (contents capture.now) cs
-        ++ unselected_remark (contents capture.now) cs
-        ++ spec.selection_changes_remark (contents capture.now) setup.now clk cs
-        ++ spec.unfinished_remark (contents capture.now) cs)) }
+        (spec.cs_remarks (contents capture.now) setup.now clk cs)) }
 {
     append_optional_remark(text, capture, number, b"spi: CS", cs)?;
     append_selected_remark(text, capture, number, cs)?;
@@ -168,11 +207,18 @@ pub fn append_i2c_remarks(
     ensures { OnOk result (text.new.items ≡ text.old.items ++ remarks_text number
         (line_remark (contents capture.now) true (codes "i2c: SCL") scl
         ++ line_remark (contents capture.now) true (codes "i2c: SDA") sda
+        ++ spec.scl_remark (contents capture.now) scl
         ++ spec.bus_remarks (signal_bit (contents capture.now) scl 0)
         (signal_bit (contents capture.now) sda 0) (contents capture.now).end)) }
 {
     append_bus_line_remark(text, capture, number, b"i2c: SCL", scl)?;
     append_bus_line_remark(text, capture, number, b"i2c: SDA", sda)?;
+    append_count_remark(
+        text,
+        number,
+        b"i2c: runs of SCL much shorter than others, such as spikes: ",
+        clock_runs_at(capture, scl).brief_high,
+    )?;
     append_bus_remarks(text, capture, number, scl, sda)?;
     Ok(())
 }

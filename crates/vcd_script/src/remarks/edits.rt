@@ -5,7 +5,6 @@ ghost use Rattle.std.specs.Prelude.{if◌then◌else◌};
 ghost use Rattle.std.specs.List.{count_by};
 ghost use Rattle.vcd_core.specs.CaptureContents.{contents};
 ghost use Rattle.vcd_core.specs.Contents.{signal_at};
-ghost use Rattle.vcd_core.specs.Value.{all_x};
 ghost use Rattle.vcd_edit.specs.EditFaults.{edit_fault};
 ghost use Rattle.vcd_edit.specs.declared.edit.Edit.TheVariants as edits;
 ghost use Rattle.vcd_script.specs.Remarks as spec;
@@ -15,12 +14,14 @@ ghost use Rattle.vcd_script.specs.inside.remarks.Parts as inside;
 use crate::remarks::appending::{append_count_remark, append_remark_head};
 use crate::remarks::cuts::append_cut_remark;
 use crate::remarks::derivations::append_rule_remark;
+use crate::remarks::forces::append_force_remark;
 use crate::remarks::inversions::append_invert_remark;
 use crate::remarks::pulses::{Spans, delays_in, longest_stretch_in, pulses_in, short_runs_in};
-use crate::remarks::runs::changes_at;
+use crate::remarks::removals::append_remove_remark;
+use crate::remarks::runs::{changes_at, x_value_at};
 use crate::replies::MemoryResult;
 use crate::replies::appending::{append_bytes, append_decimal};
-use vcd_core::{Bit, Capture, Change, Value};
+use vcd_core::{Capture, Change};
 use vcd_edit::{Edit, check};
 
 /// Appends the remarks on an edit; none if it is refused.
@@ -56,9 +57,16 @@ fn append_accepted(
         }
         Edit::Shift { signal, by } => append_shift_remarks(text, capture, number, signal, by),
         Edit::Invert { signal } => append_invert_remark(text, capture, number, signal),
+        Edit::Force {
+            signal,
+            from,
+            to,
+            ref value,
+        } => append_force_remark(text, capture, number, signal, from, to, value),
         Edit::Cut { from, to } => append_cut_remark(text, number, from, to),
         Edit::Derive { rule, .. } => append_rule_remark(text, capture, number, rule),
-        Edit::Rename { .. } | Edit::Remove { .. } | Edit::Force { .. } => Ok(()),
+        Edit::Remove { signal } => append_remove_remark(text, capture, number, signal),
+        Edit::Rename { .. } => Ok(()),
     }
 }
 
@@ -87,16 +95,6 @@ fn append_deglitch_remarks(
         short,
     )?;
     Ok(())
-}
-
-/// The value of the signal at a position before its changes: all x.
-fn x_value_at(capture: &Capture, signal: usize) -> Value
-    ensures { result ≡ all_x (signal_at (contents capture.now) signal).width }
-{
-    match capture.signals().get(signal) {
-        Some(found) => Value::filled(found.wave.width(), Bit::X),
-        None => Value::filled(1, Bit::X),
-    }
 }
 
 /// Appends the remark on pulses.

@@ -4,8 +4,8 @@ ghost use Rattle.std.specs.Prelude.{◌≡◌, ◌+◌, ◌++◌, ◌≤◌, ◌
 ghost use Rattle.std.specs.List.{filter};
 ghost use Rattle.vcd_core.specs.Value.{letter_at};
 ghost use Rattle.vcd_script.specs.Remarks as spec;
-ghost use Rattle.vcd_script.specs.Remarks.{ValueRun, remarks_text, run_begun, runs_begun};
-ghost use Rattle.vcd_script.specs.Remarks.{changes_from_zero, lost_remark, lost_letters};
+ghost use Rattle.vcd_script.specs.Remarks.{remarks_text, lost_remark, lost_letters};
+ghost use Rattle.vcd_script.specs.ValueRuns.{ValueRun, run_begun, runs_begun, changes_from_zero};
 ghost use Rattle.vcd_script.specs.inside.remarks.Parts as inside;
 ghost use Rattle.vcd_script.specs.inside.remarks.Parts.{is_lost_run, lost_head, lost_from};
 ghost use Rattle.vcd_script.specs.inside.remarks.Parts.{lost_end};
@@ -181,5 +181,5 @@ fn append_lost_end(text: &mut Vec<u8>, count: u64) -> MemoryResult<()>
         return Ok(());
     }
     append_more(text, count.saturating_sub(SHOWN_PLACES))?;
-    append_bytes(text, b": edges and bits there are lost\n")
+    append_bytes(text, b": edges and bits there, if any, are lost\n")
 }

@@ -7,8 +7,10 @@ ghost use Rattle.std.specs.Prelude.{if◌then◌else◌};
 ghost use Rattle.std.specs.List.{filter, count_by};
 ghost use Rattle.vcd_core.specs.declared.bit.Bit.{Bit};
 ghost use Rattle.vcd_script.specs.Remarks as spec;
-ghost use Rattle.vcd_script.specs.Remarks.{ValueRun, is_pulse, run_begun, runs_begun};
-ghost use Rattle.vcd_script.specs.Remarks.{ticks_of_run, greatest};
+ghost use Rattle.vcd_script.specs.Remarks.{greatest};
+ghost use Rattle.vcd_script.specs.ValueRuns.{ValueRun, is_pulse, run_begun, runs_begun};
+ghost use Rattle.vcd_script.specs.ValueRuns.{ticks_of_run};
+ghost use Rattle.vcd_script.specs.ValueRuns as runs;
 ghost use Rattle.vcd_script.specs.inside.remarks.Parts as inside;
 
 use crate::remarks::runs::{begins_at_zero, tick_before};
@@ -43,9 +45,9 @@ pub fn pulses_in(changes: &[Change], end: u64, ticks: u64) -> Spans
 /// value `first` before its changes.
 pub fn delays_in(changes: &[Change], first: &Value, end: u64, ticks: u64) -> Spans
     ensures count { result.count ≡ length (inside.delays_after ticks end
-        (inside.run_until (spec.tick_before end changes.now) first.now) changes.now) }
+        (inside.run_until (runs.tick_before end changes.now) first.now) changes.now) }
     ensures longest { result.longest ≡ greatest (inside.delays_after ticks end
-        (inside.run_until (spec.tick_before end changes.now) first.now) changes.now) }
+        (inside.run_until (runs.tick_before end changes.now) first.now) changes.now) }
 {
     let mut found = Spans {
         count: 0,
@@ -93,7 +95,7 @@ fn with_span(found: Spans, span: Option<u64>) -> Spans
 }
 
 /// How many ticks the run has that a change begins, if it is a pulse of fewer than `ticks` ticks.
-fn pulse_ticks(change: &Change, later: &[Change], end: u64, ticks: u64) -> Option<u64>
+pub fn pulse_ticks(change: &Change, later: &[Change], end: u64, ticks: u64) -> Option<u64>
     ensures { result ≡ inside.pulse_ticks ticks end (run_begun end change.now later.now) }
 {
     let last = tick_before(later, end);
@@ -111,7 +113,7 @@ fn pulse_ticks(change: &Change, later: &[Change], end: u64, ticks: u64) -> Optio
 /// runs that stay.
 pub fn longest_stretch_in(changes: &[Change], end: u64, ticks: u64) -> u64
     ensures { result ≡ greatest
-        (inside.stretches_after ticks end (spec.tick_before end changes.now) changes.now) }
+        (inside.stretches_after ticks end (runs.tick_before end changes.now) changes.now) }
 {
     let mut longest = 0;
     let mut last = tick_before(changes, end);

@@ -1,10 +1,12 @@
 //! The remarks on runs of a serial line that are too short for its bits, or all too long.
 
-ghost use Rattle.std.specs.Prelude.{◌≡◌, ◌++◌, ◌∷◌, [], OnOk, if◌then◌else◌};
+ghost use Rattle.std.specs.Prelude.{◌≡◌, ℕ, ◌++◌, ◌∷◌, [], OnOk, if◌then◌else◌};
 ghost use Rattle.vcd_core.specs.CaptureContents.{contents};
 ghost use Rattle.vcd_core.specs.Contents.{signal_at};
+ghost use Rattle.vcd_script.specs.ClockRuns as clocks;
 ghost use Rattle.vcd_script.specs.Remarks as spec;
 ghost use Rattle.vcd_script.specs.Remarks.{remarks_text};
+ghost use Rattle.vcd_script.specs.ValueRuns as runs;
 
 use crate::remarks::appending::{append_count_remark, append_remark_head};
 use crate::remarks::beginnings::has_fall;
@@ -12,7 +14,7 @@ use crate::remarks::pulses::pulses_in;
 use crate::remarks::runs::changes_at;
 use crate::replies::MemoryResult;
 use crate::replies::appending::append_bytes;
-use vcd_core::{Capture, Change};
+use vcd_core::Capture;
 use vcd_decode::Uart;
 
 /// Appends the remark on runs that are shorter than two thirds of a bit, unless there is none.
@@ -70,45 +72,20 @@ fn has_long_runs(capture: &Capture, signal: usize, ticks: u64) -> bool
 
 /// How many runs of a signal have fewer ticks, and contain neither tick 0 nor the end.
 fn shorter_runs(capture: &Capture, signal: usize, ticks: u64) -> u64
-    ensures { result ≡ spec.shorter_runs ticks (contents capture.now).end
+    ensures { result ≡ runs.shorter_runs ticks (contents capture.now).end
         (signal_at (contents capture.now) signal) }
 {
     pulses_in(changes_at(capture, signal), capture.end(), ticks).count
 }
 
-/// How many runs of a data line of `spi` are shorter than each of its clock.
-pub fn spikes_of(capture: &Capture, clk: usize, line: Option<usize>) -> u64
-    ensures { result ≡ spec.spike_count (contents capture.now) clk line }
+/// How many runs of a data line of `spi` are shorter than half a period of its clock.
+pub fn spikes_of(capture: &Capture, line: Option<usize>, half_period: u64) -> u64
+    ensures { (clk : ℕ) → half_period ≡ clocks.half_period (contents capture.now).end
+        (signal_at (contents capture.now) clk)
+        → result ≡ spec.spike_count (contents capture.now) clk line }
 {
     match line {
-        Some(signal) => shorter_runs(capture, signal, shortest_run(changes_at(capture, clk))),
+        Some(signal) => shorter_runs(capture, signal, half_period),
         None => 0,
     }
-}
-
-/// How many ticks the shortest run has, but for that at the end, of a signal with these changes; 0
-/// if there is none.
-fn shortest_run(changes: &[Change]) -> u64
-    ensures { result ≡ spec.least (spec.ticks_between 0 changes.now) }
-{
-    let mut shortest = 0;
-    let mut before = 0;
-    for change in changes {
-        shortest = lesser(shortest, change.tick.saturating_sub(before));
-        before = change.tick;
-    }
-    shortest
-}
-
-/// The lesser of two numbers above 0; the other one if one is 0.
-fn lesser(first: u64, second: u64) -> u64
-    ensures { result ≡ spec.lesser first second }
-{
-    if first == 0 {
-        return second;
-    }
-    if second == 0 {
-        return first;
-    }
-    first.min(second)
 }

@@ -3,11 +3,11 @@
 ghost use Rattle.std.specs.Prelude.{◌≡◌};
 ghost use Rattle.vcd_core.specs.Contents.{signal_at};
 ghost use Rattle.vcd_core.specs.CaptureContents.{contents};
-ghost use Rattle.vcd_core.specs.Value.{letter_at};
-ghost use Rattle.vcd_script.specs.Remarks as spec;
+ghost use Rattle.vcd_core.specs.Value.{all_x, letter_at};
+ghost use Rattle.vcd_script.specs.ValueRuns as runs;
 ghost use Rattle.vcd_script.specs.inside.remarks.Parts as inside;
 
-use vcd_core::{Bit, Capture, Change};
+use vcd_core::{Bit, Capture, Change, Value};
 
 /// The changes of the signal at a position; none if there is no signal.
 pub fn changes_at(capture: &Capture, signal: usize) -> &[Change]
@@ -16,6 +16,16 @@ pub fn changes_at(capture: &Capture, signal: usize) -> &[Change]
     match capture.signals().get(signal) {
         Some(found) => found.wave.changes(),
         None => &[],
+    }
+}
+
+/// The value of the signal at a position before its changes: all x.
+pub fn x_value_at(capture: &Capture, signal: usize) -> Value
+    ensures { result ≡ all_x (signal_at (contents capture.now) signal).width }
+{
+    match capture.signals().get(signal) {
+        Some(found) => Value::filled(found.wave.width(), Bit::X),
+        None => Value::filled(1, Bit::X),
     }
 }
 
@@ -31,7 +41,7 @@ pub fn begins_at_zero(changes: &[Change]) -> bool
 
 /// The last tick before these changes, in a capture up to this end.
 pub fn tick_before(changes: &[Change], end: u64) -> u64
-    ensures { result ≡ spec.tick_before end changes.now }
+    ensures { result ≡ runs.tick_before end changes.now }
 {
     match changes {
         [first, ..] => first.tick.saturating_sub(1),

@@ -123,7 +123,7 @@ pub fn append_samples_remarks(
         number,
         b"spi: runs of ",
         name,
-        b" shorter than each of CLK, such as spikes: ",
+        b" shorter than half a period of CLK, such as spikes: ",
         spikes,
     )?;
     Ok(())

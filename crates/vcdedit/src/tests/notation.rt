@@ -6,7 +6,7 @@ use std::alloc::Global;
 use std::test::Fail;
 
 /// The codes of signals, by their positions.
-const CODES: &[u8] = b"!\"#$%&'";
+const CODES: &[u8] = b"!\"#$%&'(";
 
 /// A line of the changes past tick 0.
 #[derive(Drop)]

@@ -12,9 +12,10 @@ use vcd_core::{Capture, FromRead};
 use vcd_script::remarks_on;
 use vcd_text::read;
 
-/// Lines on a capture of six wires and one of four bits, each with its remarks, which ` / `
+/// Lines on a capture of seven wires and one of four bits, each with its remarks, which ` / `
 /// separates. `top.a` is x up to the tick 1, and rises from 0 at 5, 9 and 15; `top.b` has six
-/// places with x, and z at 30, and is never 0; `top.c` is 1 for 20 ticks, and `top.f` 0 for 10.
+/// places with x, and z at 30, and is never 0; `top.c` is 1 for 20 ticks, and `top.f` 0 for 10. The
+/// runs of `top.g` have four ticks or five, but for one of a single tick.
 const LINES: &str = "\
 deglitch top.a 1 => deglitch: pulses removed: 0
 deglitch top.a 2 => deglitch: pulses removed: 1 (ticks of the longest: 1)
@@ -44,13 +45,17 @@ shift top.a -9223372036854775808 => shift: edges moved before tick 0: 6 \
 / shift: ticks at the end filled with the last value: 41
 invert top.a => invert: changes with z, which becomes x: 1
 invert top.d =>
+force top.a 3 15 1 => force: changes taken out, whose time stamps stay: 5
+force top.a 5 7 0 => force: changes taken out, whose time stamps stay: 2
+force top.a 5 7 z =>
 cut 9 4 =>
 cut 4 9 => cut: the capture is joined at tick 4, and later ticks are 5 fewer from here on: \
 what is decoded across the join may be wrong
 cut 0 9 => cut: later ticks are 9 fewer from here on
 undo =>
 changes top.b =>
-uart top.a 10 8 none 1 => uart: the line is x or z at 0-1, 9: edges and bits there are lost \
+uart top.a 10 8 none 1 => uart: the line is x or z at 0-1, 9: \
+edges and bits there, if any, are lost \
 / uart: the line is not idle for a frame from tick 0 on: if one began before, \
 bytes up to the first pause may be wrong \
 / uart: runs of fewer ticks than two thirds of a bit, such as spikes: 5 \
@@ -60,10 +65,10 @@ uart top.c 21/10 8 none 1 =>
 uart top.c 22/10 8 none 1 => uart: the line is not idle for a frame from tick 0 on: if one began \
 before, bytes up to the first pause may be wrong
 uart top.b 10 8 none 1 => uart: the line is x or z at 2, 4, 6, 8, 11-13, and 2 more: \
-edges and bits there are lost / uart: the line never falls from 1 to 0: no frame begins \
+edges and bits there, if any, are lost / uart: the line never falls from 1 to 0: no frame begins \
 / uart: runs of fewer ticks than two thirds of a bit, such as spikes: 12
 uart top.b 2 8 none 1 => uart: the line is x or z at 2, 4, 6, 8, 11-13, and 2 more: \
-edges and bits there are lost / uart: the line never falls from 1 to 0: no frame begins \
+edges and bits there, if any, are lost / uart: the line never falls from 1 to 0: no frame begins \
 / uart: runs of fewer ticks than two thirds of a bit, such as spikes: 9
 uart top.f 15 8 none 1 => uart: the line is not idle for a frame from tick 0 on: if one \
 began before, bytes up to the first pause may be wrong \
@@ -82,45 +87,54 @@ began before, bytes up to the first pause may be wrong \
 uart top.f 2 8 none 1 => uart: no run within the line is shorter than one and a half bits: is BIT \
 right?
 spi top.b - top.a - 0 8 msb => spi: CLK is x or z at 2, 4, 6, 8, 11-13, and 2 more: \
-edges and bits there are lost \
+edges and bits there, if any, are lost \
+/ spi: runs of CLK much shorter than others, such as spikes: 10 \
 / spi: MISO changes after samples rather than before them (is MODE right?): 1 \
+/ spi: runs of MISO shorter than half a period of CLK, such as spikes: 3 \
 / spi: without CS words are counted from tick 0: if one began before, all may be wrong
 spi top.d top.b - - 0 8 msb => spi: samples at which MOSI is x or z: 1 \
 / spi: samples at whose tick MOSI changes, so that its new value counts (is MODE right?): 1 \
-/ spi: runs of MOSI shorter than each of CLK, such as spikes: 11 \
 / spi: without CS words are counted from tick 0: if one began before, all may be wrong
-spi top.a - top.b - 1 8 msb => spi: CLK is x or z at 0-1, 9: edges and bits there are lost \
+spi top.a - top.b - 1 8 msb => spi: CLK is x or z at 0-1, 9: \
+edges and bits there, if any, are lost \
 / spi: samples at whose tick MISO changes, so that its new value counts (is MODE right?): 1 \
+/ spi: runs of MISO shorter than half a period of CLK, such as spikes: 9 \
 / spi: without CS words are counted from tick 0: if one began before, all may be wrong
-spi top.a - top.b top.c 0 8 msb => spi: CLK is x or z at 0-1, 9: edges and bits there are lost \
+spi top.a - top.b top.c 0 8 msb => spi: CLK is x or z at 0-1, 9: \
+edges and bits there, if any, are lost \
+/ spi: runs of MISO shorter than half a period of CLK, such as spikes: 9 \
 / spi: CS is 0 at the end: the last word or transfer may go on past it
 spi top.d top.e - - 0 8 msb => \
 spi: samples at whose tick MOSI changes, so that its new value counts (is MODE right?): 1 \
 / spi: MOSI changes after samples rather than before them (is MODE right?): 3 \
-/ spi: runs of MOSI shorter than each of CLK, such as spikes: 2 \
 / spi: without CS words are counted from tick 0: if one began before, all may be wrong
-spi top.d - top.e - 1 8 msb => spi: runs of MISO shorter than each of CLK, such as spikes: 2 \
-/ spi: without CS words are counted from tick 0: if one began before, all may be wrong
-spi top.a top.e - - 0 8 msb => spi: CLK is x or z at 0-1, 9: edges and bits there are lost \
+spi top.d - top.e - 1 8 msb => \
+spi: without CS words are counted from tick 0: if one began before, all may be wrong
+spi top.a top.e - - 0 8 msb => spi: CLK is x or z at 0-1, 9: \
+edges and bits there, if any, are lost \
 / spi: without CS words are counted from tick 0: if one began before, all may be wrong
 spi top.d - top.e top.c 0 8 msb => \
 spi: MISO changes after samples rather than before them (is MODE right?): 1 \
-/ spi: runs of MISO shorter than each of CLK, such as spikes: 2 \
 / spi: CS is 0 at the end: the last word or transfer may go on past it
 spi top.d - - top.b 0 8 msb => spi: CS is x or z at 2, 4, 6, 8, 11-13, and 2 more: \
-edges and bits there are lost / spi: CS is never 0: nothing is selected
+edges and bits there, if any, are lost / spi: CS is never 0: nothing is selected
 spi top.c - - top.d 0 8 msb => spi: CS is 0 at tick 0: words are counted from there, and until CS \
 is 1 they may be wrong
 spi top.d - - top.c 0 8 msb => spi: CS is 0 at the end: the last word or transfer may go on past it
-spi top.d - - top.a 0 8 msb => spi: CS is x or z at 0-1, 9: edges and bits there are lost
-i2c top.a top.b => i2c: SCL is x at 0-1: edges and bits there are lost \
-/ i2c: SDA is x at 2, 4, 6, 8, 11-13, and 1 more: edges and bits there are lost \
+spi top.d - - top.a 0 8 msb => spi: CS is x or z at 0-1, 9: edges and bits there, if any, are lost
+i2c top.a top.b => i2c: SCL is x at 0-1: edges and bits there, if any, are lost \
+/ i2c: SDA is x at 2, 4, 6, 8, 11-13, and 1 more: edges and bits there, if any, are lost \
 / i2c: bits before the first start or stop, which are not decoded: 3
-i2c top.a top.d => i2c: SCL is x at 0-1: edges and bits there are lost \
+i2c top.a top.d => i2c: SCL is x at 0-1: edges and bits there, if any, are lost \
 / i2c: bits before the first start or stop, which are not decoded: 1 \
 / i2c: bits after the last byte, which are not decoded: 2
+spi top.g - - top.c 0 8 msb => spi: runs of CLK much shorter than others, such as spikes: 1 \
+/ spi: CS is 0 at the end: the last word or transfer may go on past it
 i2c top.c top.d =>
-i2c top.a top.e => i2c: SCL is x at 0-1: edges and bits there are lost \
+i2c top.g top.c => i2c: runs of SCL much shorter than others, such as spikes: 1 \
+/ i2c: bits before the first start or stop, which are not decoded: 3 \
+/ i2c: bits after the last byte, which are not decoded: 2 / i2c: the last transfer has no stop
+i2c top.a top.e => i2c: SCL is x at 0-1: edges and bits there, if any, are lost \
 / i2c: bits before the first start or stop, which are not decoded: 1 \
 / i2c: bits after a stop and before the next start or stop, which are not decoded: 2 \
 / i2c: the last transfer has no stop \
@@ -137,8 +151,10 @@ changes top.clk =>
 value top.rx 5 => 2 signals are called top.rx: @0 is meant
 rename top.tx led => 2 signals are called top.tx: @3 is meant
 rename @3 top.tx => 2 signals are called top.tx: @3 is meant
-remove top.rx => 2 signals are called top.rx: @0 is meant
-remove @4 =>
+remove top.rx => 2 signals are called top.rx: @0 is meant \
+/ remove: signals from @1 on are one position earlier from here on
+remove @4 => remove: signals from @5 on are one position earlier from here on
+remove @6 =>
 derive both and top.clk top.tx => 2 signals are called top.tx: @3 is meant
 derive both and top.tx top.rx => 2 signals are called top.tx: @3 is meant \
 / 2 signals are called top.rx: @0 is meant
@@ -196,7 +212,8 @@ fn remarks_on_lines(rt: HostRuntime) -> Result<(), Fail> {
         "[a:1 0@2 1@5 0@7 z@9 0@10 1@15 \
          | b:1 1@0 x@2 1@3 x@4 1@5 x@6 1@7 x@8 1@9 x@11 1@14 x@20 1@21 z@30 1@31 \
          | v:4 0@5 1@20 | c:1 1@0 0@20 | d:1 0@0 1@6 | e:1 0@0 1@6 0@10 1@12 0@20 \
-         | f:1 1@0 0@20 1@30; end 40]",
+         | f:1 1@0 0@20 1@30 \
+         | g:1 0@0 1@3 0@7 1@11 0@15 1@19 0@23 1@27 0@31 1@36 0@37; end 40]",
     )?;
     let loaded = read(rt.alloc(), &mut FromRead::new(file.as_bytes()))?;
     for row in LINES.lines() {

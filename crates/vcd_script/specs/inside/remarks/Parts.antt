@@ -1,5 +1,5 @@
 -- The remarks as the code appends their parts.
-use Rattle.std.specs.Prelude.{ℕ, zero, ◌+◌, ◌-◌, ◌==◌, ◌&&◌, nat_lt, max, Bool, false, not}
+use Rattle.std.specs.Prelude.{ℕ, zero, ◌+◌, ◌-◌, ◌==◌, ◌&&◌, nat_le, nat_lt, max, Bool, false, not}
 use Rattle.std.specs.Prelude.{if◌then◌else◌, Option, Some, None, List, [], ◌∷◌, ◌++◌, codes}
 use Rattle.std.specs.List.{filter}
 use Rattle.std.specs.Fmt.{decimal}
@@ -8,9 +8,10 @@ use Rattle.vcd_core.specs.declared.wave.Change.{Change}
 use Rattle.vcd_core.specs.Value.{letter_at, same_letters}
 use Rattle.vcd_script.specs.declared.remarks.pulses.Spans.{Spans}
 use Rattle.vcd_script.specs.declared.remarks.places.DecoderLine.{DecoderLine}
-use Rattle.vcd_script.specs.Remarks.{ValueRun, tick_before, runs_begun, is_pulse, ticks_of_run}
+use Rattle.vcd_script.specs.ClockRuns.{is_of_level}
 use Rattle.vcd_script.specs.Remarks.{edge_delays, stays_short, delay_text, is_lost, lost_letters}
 use Rattle.vcd_script.specs.Remarks.{place_text, more_text, stretches}
+use Rattle.vcd_script.specs.ValueRuns.{ValueRun, tick_before, runs_begun, is_pulse, ticks_of_run}
 
 -- the number of a line, before a remark
 abbrev pub remark_head : ℕ → List ℕ
@@ -42,6 +43,16 @@ longest_of count longest = codes " (ticks of the longest: " ++ decimal longest +
 abbrev pub pulses_text : Spans → List ℕ
 pulses_text found = codes "deglitch: pulses removed: " ++ decimal found.count
     ++ longest_of found.count found.longest
+
+-- how many ticks a run has, if it is of a level and contains neither tick 0 nor the end
+abbrev pub level_ticks : (is_low : Bool) → (end : ℕ) → ValueRun → Option ℕ
+level_ticks is_low end r =
+    if is_pulse end end r && is_of_level is_low r then Some (ticks_of_run r) else None
+
+-- whether there are so many ticks, at least a number
+abbrev pub reaches : (bound : ℕ) → Option ℕ → Bool
+reaches bound None = false
+reaches bound (Some ticks) = nat_le bound ticks
 
 -- a run of which the last tick and the value count
 abbrev pub run_until : (last : ℕ) → (value : List Bit) → ValueRun
@@ -109,7 +120,8 @@ numbered_place head count first last =
 -- what comes after `count` places
 abbrev pub lost_end : (count : ℕ) → List ℕ
 lost_end zero = []
-lost_end count = more_text (count - 5) ++ codes ": edges and bits there are lost" ++ 10 ∷ []
+lost_end count =
+    more_text (count - 5) ++ codes ": edges and bits there, if any, are lost" ++ 10 ∷ []
 
 -- what is appended for runs in which a line is lost, after `count` places
 unfoldable pub lost_from : (head : List ℕ) → (count : ℕ) → List ValueRun → List ℕ

@@ -10,3 +10,6 @@ returns-in-Shift c =
 
 pub returns-in-Deglitch : goal.returns-in-Deglitch
 returns-in-Deglitch c = rw (c.in-Deglitch.is) c.append_deglitch_remarks.ensures
+
+pub returns-in-Force : goal.returns-in-Force
+returns-in-Force c = rw (c.in-Force.is) c.append_force_remark.ensures

@@ -3,9 +3,9 @@ use Rattle.std.specs.Prelude.{codes}
 use Rattle.std.specs.List.{filter, count_by}
 use Rattle.vcd_core.specs.Contents.{Contents, signal_at}
 use Rattle.vcd_core.specs.CaptureContents.{contents}
-use Rattle.vcd_script.specs.Remarks.{ValueRun, value_runs, is_pulse, deglitch_remark, delays_after_pulses}
-use Rattle.vcd_script.specs.Remarks.{longest_stretch, stretch_remark, delays_remark, count_remark, stays_short}
-use Rattle.vcd_script.specs.Remarks.{remarks_text}
+use Rattle.vcd_script.specs.Remarks.{deglitch_remark, delays_after_pulses, longest_stretch, stretch_remark}
+use Rattle.vcd_script.specs.Remarks.{delays_remark, count_remark, stays_short, remarks_text}
+use Rattle.vcd_script.specs.ValueRuns.{ValueRun, value_runs, is_pulse}
 use Rattle.vcd_script.proofs.remarks.RemarksInTurn.{in_turn}
 use Rattle.vcd_script.proofs.remarks.PulsesFound.{remark_on_pulses}
 use Rattle.vcd_script.proofs.remarks.StretchesFound.{stretch_of_signal}

@@ -1,5 +1,6 @@
 use Rattle.std.proofs.Common.{sym, ap, ◌∙◌}
-use Rattle.vcd_script.specs.Remarks.{is_lost, run_begun}
+use Rattle.vcd_script.specs.Remarks.{is_lost}
+use Rattle.vcd_script.specs.ValueRuns.{run_begun}
 use Rattle.vcd_script.specs.inside.remarks.Parts.{lost_head}
 use Rattle.vcd_script.proofs.remarks.PlacesShown.{is_appended}
 use Rattle.vcd_script.proofs.remarks.places.append_run.Goals as goal

@@ -1,7 +1,7 @@
 -- The text so far and the places among the runs left make the whole text.
 use Rattle.std.proofs.Common.{◌≡◌, ◌≤◌, ◌+◌, ◌++◌, drop}
 use Rattle.std.specs.List.{filter}
-use Rattle.vcd_script.specs.Remarks.{runs_begun}
+use Rattle.vcd_script.specs.ValueRuns.{runs_begun}
 use Rattle.vcd_script.specs.inside.remarks.Parts.{is_lost_run, lost_head, lost_from}
 use Rattle.vcd_script.proofs.remarks.places.append_runs.Given as goal
 

@@ -1,6 +1,7 @@
 -- The delays found and those at the changes left are all.
 use Rattle.std.proofs.Common.{◌≡◌, ◌≤◌, ◌+◌, max, length, drop}
-use Rattle.vcd_script.specs.Remarks.{tick_before, greatest}
+use Rattle.vcd_script.specs.Remarks.{greatest}
+use Rattle.vcd_script.specs.ValueRuns.{tick_before}
 use Rattle.vcd_script.specs.inside.remarks.Parts.{run_until, delays_after}
 use Rattle.vcd_script.proofs.remarks.pulses.delays_in.Given as goal
 

@@ -1,6 +1,7 @@
 -- The longest stretch so far and those before the changes left are all.
 use Rattle.std.proofs.Common.{◌≡◌, max, drop}
-use Rattle.vcd_script.specs.Remarks.{tick_before, greatest}
+use Rattle.vcd_script.specs.Remarks.{greatest}
+use Rattle.vcd_script.specs.ValueRuns.{tick_before}
 use Rattle.vcd_script.specs.inside.remarks.Parts.{stretches_after}
 use Rattle.vcd_script.proofs.remarks.pulses.longest_stretch_in.Given as goal
 

@@ -1,7 +1,8 @@
 -- The pulses found and those among the runs left are all.
 use Rattle.std.proofs.Common.{◌≡◌, ◌≤◌, ◌+◌, max, length, map, drop}
 use Rattle.std.specs.List.{filter}
-use Rattle.vcd_script.specs.Remarks.{is_pulse, runs_begun, ticks_of_run, greatest}
+use Rattle.vcd_script.specs.Remarks.{greatest}
+use Rattle.vcd_script.specs.ValueRuns.{is_pulse, runs_begun, ticks_of_run}
 use Rattle.vcd_script.proofs.remarks.pulses.pulses_in.Given as goal
 
 abbrev pub invariant-loop-i : goal.invariant-loop-i

@@ -1,7 +1,8 @@
 -- The short runs that stay, counted so far, and those among the runs left are all.
 use Rattle.std.proofs.Common.{◌≡◌, ◌≤◌, ◌+◌, if◌then◌else◌, drop}
 use Rattle.std.specs.List.{count_by}
-use Rattle.vcd_script.specs.Remarks.{runs_begun, stays_short}
+use Rattle.vcd_script.specs.Remarks.{stays_short}
+use Rattle.vcd_script.specs.ValueRuns.{runs_begun}
 use Rattle.vcd_script.specs.inside.remarks.Parts.{x_stays_short}
 use Rattle.vcd_script.proofs.remarks.pulses.short_runs_in.Given as goal
 

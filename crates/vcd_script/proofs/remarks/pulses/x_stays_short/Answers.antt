@@ -1,5 +1,6 @@
 use Rattle.std.proofs.Common.{◌&&◌, not, [], ap, sym, ◌∙◌}
-use Rattle.vcd_script.specs.Remarks.{tick_before, stays_short}
+use Rattle.vcd_script.specs.Remarks.{stays_short}
+use Rattle.vcd_script.specs.ValueRuns.{tick_before}
 use Rattle.vcd_script.specs.inside.remarks.Parts.{run_until}
 use Rattle.vcd_script.proofs.remarks.pulses.x_stays_short.Goals as goal
 

@@ -1,6 +1,6 @@
 use Rattle.std.specs.Fmt.{decimal}
 use Rattle.vcd_script.proofs.remarks.RemarksInTurn.{three_in_turn}
-use Rattle.vcd_script.proofs.remarks.cuts.append_decimal_between.Goals as goal
+use Rattle.vcd_script.proofs.remarks.appending.append_decimal_between.Goals as goal
 
 pub returns : goal.returns
 returns c =
