@@ -41,7 +41,7 @@ ROWS = {
         {"uart": "0 -|20 byte_0x40|40 -", "uart_2": "0 -|20 byte_0x40|40 -"}),
     "a decoder of a signal that gets another place": (
         text("r c", '1! 1" #20 0! 0" #34 1! 1" #36 0! 0" #38 1! 1" #50'), ["uart @1 2 8 none 1", "remove r"],
-        [NO_ROW % 1], {}),
+        ["line 2: remove: signals from @1 on are one position earlier from here on", NO_ROW % 1], {}),
     "a bus, in a capture of a simulator": (load(I2C).decode(), [I2C_LINE], [], {
         "i2c": "0 -|22 address_0x50_write|93 -|112 data_0x2a|183 -|212 address_0x50_read|283 -|302 data_0xc5|373 -",
         "i2c_conditions": "0 -|15 start|102 ack|192 ack|205 repeated-start|292 ack|382 nack|395 stop"}),
