@@ -34,42 +34,41 @@ ticks_of_level is_low end runs =
 unfoldable pub count_from : (bound : ℕ) → List ℕ → ℕ
 count_from bound ns = count_by (nat_le bound) ns
 
--- whether runs of these numbers of ticks often have so many: more than one, and more than an eighth
--- of them. No capture has a run as long as its end
-abbrev pub is_often_reached : (end bound : ℕ) → List ℕ → Bool
-is_often_reached end bound ns =
-    nat_lt bound end && nat_lt (max (length ns / 8) 1) (count_from bound ns)
+-- whether more than `few` of runs of these numbers of ticks have at least so many. No capture has a
+-- run as long as its end
+abbrev pub is_often_reached : (few end bound : ℕ) → List ℕ → Bool
+is_often_reached few end bound ns = nat_lt bound end && nat_lt few (count_from bound ns)
 
 -- a number of ticks, doubled as long as that is often reached, but at most this many times
-unfoldable pub doubled : (times end n : ℕ) → List ℕ → ℕ
-doubled zero end n ns = n
-doubled (suc times) end n ns =
-    if is_often_reached end (2 * n) ns then doubled times end (2 * n) ns else n
+unfoldable pub doubled : (times few end n : ℕ) → List ℕ → ℕ
+doubled zero few end n ns = n
+doubled (suc times) few end n ns =
+    if is_often_reached few end (2 * n) ns then doubled times few end (2 * n) ns else n
 
 -- a number of ticks, or half as many again if that is often reached
-unfoldable pub raised : (end n : ℕ) → List ℕ → ℕ
-raised end n ns = if is_often_reached end (n + n / 2) ns then n + n / 2 else n
+unfoldable pub raised : (few end n : ℕ) → List ℕ → ℕ
+raised few end n ns = if is_often_reached few end (n + n / 2) ns then n + n / 2 else n
 
--- the ticks that runs of these numbers of ticks often have: those of the shortest, doubled as often
--- as may be, for which 64 times are enough, and perhaps half as many again
-abbrev pub usual_ticks : (end : ℕ) → List ℕ → ℕ
-usual_ticks end ns = raised end (doubled 64 end (least ns) ns) ns
+-- the ticks that more than `few` of such runs have: those of the shortest, doubled as often as may
+-- be, for which 64 times are enough, and perhaps half as many again
+abbrev pub frequent_ticks : (few end : ℕ) → List ℕ → ℕ
+frequent_ticks few end ns = raised few end (doubled 64 few end (least ns) ns) ns
+
+-- the ticks that they often have: that more than one, and more than one in `share` of them have
+abbrev pub usual_ticks : (share end : ℕ) → List ℕ → ℕ
+usual_ticks share end ns = frequent_ticks (max (length ns / share) 1) end ns
 
 -- how many of them have less than half of that
-abbrev pub brief_count : (end : ℕ) → List ℕ → ℕ
-brief_count end ns = length ns - count_from (div_ceil (usual_ticks end ns) 2) ns
+abbrev pub brief_count : (share end : ℕ) → List ℕ → ℕ
+brief_count share end ns = length ns - count_from (div_ceil (usual_ticks share end ns) 2) ns
 
 -- how many runs of a clock are much shorter than others of their level, as spikes and ringing edges
--- are
-unfoldable pub brief_runs : (end : ℕ) → SignalContents → ℕ
-brief_runs end s = brief_count end (ticks_of_level true end (value_runs end s))
-    + brief_count end (ticks_of_level false end (value_runs end s))
-
--- how many runs in which it is not low are, as SCL's are longer where it is stretched while low
-unfoldable pub brief_high_runs : (end : ℕ) → SignalContents → ℕ
-brief_high_runs end s = brief_count end (ticks_of_level false end (value_runs end s))
+-- are: others are those that more than one in `low`, or in `high`, reach
+unfoldable pub brief_runs : (low high end : ℕ) → SignalContents → ℕ
+brief_runs low high end s = brief_count low end (ticks_of_level true end (value_runs end s))
+    + brief_count high end (ticks_of_level false end (value_runs end s))
 
 -- half of what a run of each level of a clock often has together: half a period
 unfoldable pub half_period : (end : ℕ) → SignalContents → ℕ
-half_period end s = (usual_ticks end (ticks_of_level true end (value_runs end s))
-    + usual_ticks end (ticks_of_level false end (value_runs end s))) / 2
+half_period end s = (usual_ticks 8 end (ticks_of_level true end (value_runs end s))
+    + usual_ticks 8 end (ticks_of_level false end (value_runs end s))) / 2

@@ -36,7 +36,7 @@ use Rattle.vcd_edit.specs.EditFaults.{edit_fault}
 use Rattle.vcd_journal.specs.declared.step.Step.TheVariants as steps
 use Rattle.vcd_script.specs.declared.script.command.Command.{Command}
 use Rattle.vcd_script.specs.declared.script.command.Command.TheVariants as commands
-use Rattle.vcd_script.specs.ClockRuns.{brief_runs, brief_high_runs, half_period}
+use Rattle.vcd_script.specs.ClockRuns.{brief_runs, half_period}
 use Rattle.vcd_script.specs.ValueRuns.{ValueRun, value_runs, ticks_of_run, is_pulse, shorter_runs}
 use Rattle.vcd_script.specs.SpiRemarks.{unclear_text, moving_text, unclear_count, moving_count}
 use Rattle.vcd_script.specs.SpiRemarks.{changes_after_text, count_if_more, changes_after_count}
@@ -411,11 +411,11 @@ module _ (c : Contents) where
 
   -- the remark on the runs of CLK at a position that are much shorter than others
   abbrev pub clk_remark : ℕ → List (List ℕ)
-  clk_remark k = count_remark clk_text (brief_runs c.end (signal_at c k))
+  clk_remark k = count_remark clk_text (brief_runs 8 8 c.end (signal_at c k))
 
-  -- the same for SCL, where it is not low
+  -- the same for SCL, of which up to a quarter of the low runs may be stretched
   abbrev pub scl_remark : ℕ → List (List ℕ)
-  scl_remark k = count_remark scl_text (brief_high_runs c.end (signal_at c k))
+  scl_remark k = count_remark scl_text (brief_runs 4 8 c.end (signal_at c k))
 
   -- how many runs of a data line at a position are shorter than half a period of CLK, but contain
   -- neither tick 0 nor the end; none if it is absent

@@ -13,7 +13,7 @@ use Rattle.vcd_core.specs.Value.{all_x}
 use Rattle.vcd_core.specs.Wave.{change}
 use Rattle.vcd_core.specs.Contents.{Contents, signal_at}
 use Rattle.vcd_script.specs.ClockRuns.{is_of_level, ticks_of_level, lesser, least, count_from, is_often_reached}
-use Rattle.vcd_script.specs.ClockRuns.{doubled}
+use Rattle.vcd_script.specs.ClockRuns.{doubled, brief_count, brief_runs}
 use Rattle.vcd_script.specs.ClockRuns.{raised}
 use Rattle.vcd_script.specs.ValueRuns.{ValueRun, run_begun, runs_begun, changes_from_zero, is_pulse, ticks_of_run}
 use Rattle.vcd_script.specs.ValueRuns.{value_runs}
@@ -143,16 +143,16 @@ not_capped m capped end few ns is fits passes =
     omega (arith, is, fits, ltb-true capped end (and_parts _ _ passes).0)
 
 -- one doubling by its test
-pub doubled_by : (times end n : ℕ) (ns : List ℕ) (b : Bool) → is_often_reached end (2 * n) ns ≡ b
-    → doubled (suc times) end n ns ≡ (if b then doubled times end (2 * n) ns else n)
+pub doubled_by : (times few end n : ℕ) (ns : List ℕ) (b : Bool) → is_often_reached few end (2 * n) ns ≡ b
+    → doubled (suc times) few end n ns ≡ (if b then doubled times few end (2 * n) ns else n)
 unfolding doubled
-doubled_by times end n ns b is = ap (λ (t : Bool). if t then doubled times end (2 * n) ns else n) is
+doubled_by times few end n ns b is = ap (λ (t : Bool). if t then doubled times few end (2 * n) ns else n) is
 
 -- half as much again by its test
-pub raised_by : (end n : ℕ) (ns : List ℕ) (b : Bool) → is_often_reached end (n + n / 2) ns ≡ b
-    → raised end n ns ≡ (if b then n + n / 2 else n)
+pub raised_by : (few end n : ℕ) (ns : List ℕ) (b : Bool) → is_often_reached few end (n + n / 2) ns ≡ b
+    → raised few end n ns ≡ (if b then n + n / 2 else n)
 unfolding raised
-raised_by end n ns b is = ap (λ (t : Bool). if t then n + n / 2 else n) is
+raised_by few end n ns b is = ap (λ (t : Bool). if t then n + n / 2 else n) is
 
 -- ---- a signal
 
@@ -174,3 +174,16 @@ pub levels_of_signal : (c : Contents) (k : ℕ) (is_low : Bool) (end : ℕ) (cs 
 levels_of_signal c k is_low end cs ends same =
     (λ i. ticks_of_level is_low (ends i) (runs_begun (ends i) (same i)))
     ∙ levels_of_changes is_low c.end (signal_at c k).width (signal_at c k).changes
+
+-- the short runs of both levels, of which there are at most as many as changes
+pub brief_of_signal : (c : Contents) (k low high end : ℕ) (cs : List Change) (brief_low brief_high sum : ℕ)
+    → end ≡ c.end → cs ≡ (signal_at c k).changes
+    → brief_low ≡ brief_count low end (ticks_of_level true end (runs_begun end cs))
+    → brief_high ≡ brief_count high end (ticks_of_level false end (runs_begun end cs))
+    → brief_low ≤ length cs → brief_high ≤ length cs → length cs < 2 ^ 63
+    → sum ≡ min (brief_low + brief_high) (2 ^ 64 - 1) → sum ≡ brief_runs low high c.end (signal_at c k)
+unfolding brief_runs
+brief_of_signal c k low high end cs brief_low brief_high sum ends same is_low is_high few_low few_high fit is =
+    let lows = is_low ∙ (λ i. brief_count low (ends i) (levels_of_signal c k true end cs ends same i)) in
+    let highs = is_high ∙ (λ i. brief_count high (ends i) (levels_of_signal c k false end cs ends same i)) in
+    omega (arith, lows, highs, few_low, few_high, fit, is)

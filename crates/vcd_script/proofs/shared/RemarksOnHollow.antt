@@ -33,7 +33,7 @@ use Rattle.vcd_script.specs.declared.script.line_error.LineError.{LineError}
 use Rattle.vcd_script.specs.ScriptCommands.{command_of_line}
 use Rattle.vcd_script.specs.HollowRun.{waves_asked, origins_of_line}
 use Rattle.vcd_script.specs.NameRemarks.{signals_of_command, name_remark, name_remarks}
-use Rattle.vcd_script.specs.ClockRuns.{half_period, brief_runs, brief_high_runs}
+use Rattle.vcd_script.specs.ClockRuns.{half_period, brief_runs}
 use Rattle.vcd_script.specs.Remarks.{deglitch_remarks, shift_remarks, invert_remarks, force_remarks, edit_remarks}
 use Rattle.vcd_script.specs.Remarks.{is_lost, lost_letters, lost_remark, fall_remark, line_remark, optional_line_remark}
 use Rattle.vcd_script.specs.Remarks.{idle_remark, selected_text, selected_remark, bus_remarks, count_remark}
@@ -68,10 +68,10 @@ module _ (others : List OtherChanges) (c : Contents) where
   same_line_if_there line (Some k) own = same_line false line k own
 
   same_clk : (k : ℕ) → HaveOwn others (k ∷ []) → clk_remark replaced k ≡ clk_remark c k
-  same_clk k own = λ i. count_remark clk_text (brief_runs c.end (same_signal others c k own.0 i))
+  same_clk k own = λ i. count_remark clk_text (brief_runs 8 8 c.end (same_signal others c k own.0 i))
 
   same_scl : (k : ℕ) → HaveOwn others (k ∷ []) → scl_remark replaced k ≡ scl_remark c k
-  same_scl k own = λ i. count_remark scl_text (brief_high_runs c.end (same_signal others c k own.0 i))
+  same_scl k own = λ i. count_remark scl_text (brief_runs 4 8 c.end (same_signal others c k own.0 i))
 
   -- the samples of a line, also if it is absent
   same_samples : (u : SpiSetup) (clk : ℕ) (cs : Option ℕ) (name : List ℕ) (line : Option ℕ) → HaveOwn others (clk ∷ [])

@@ -27,7 +27,7 @@ use Rattle.vcd_edit.specs.EditFaults.{edit_fault}
 use Rattle.vcd_edit.proofs.worked.Records.{from, wire, capture, alone}
 use Rattle.vcd_journal.specs.declared.step.Step.TheVariants as steps
 use Rattle.vcd_script.specs.declared.script.command.Command.TheVariants as commands
-use Rattle.vcd_script.specs.ClockRuns.{least, count_from, doubled, raised, brief_runs, brief_high_runs}
+use Rattle.vcd_script.specs.ClockRuns.{least, count_from, doubled, raised, brief_runs}
 use Rattle.vcd_script.specs.Remarks.{greatest, stretches, edge_delays, has_fall, remarks, short_runs_remark}
 use Rattle.vcd_script.specs.Remarks.{long_runs_remark, frame_edges_remark, is_other_range, count_remark}
 use Rattle.vcd_script.specs.Remarks.{changes_taken_out}
@@ -313,7 +313,7 @@ rough_i2c : remarks (capture 20 (wire (codes "scl") rough ∷ wire (codes "sda")
     ∷ codes "i2c: SDA is x at 2, 4, 6, 8, 11-13, and 1 more: edges and bits there, if any, are lost"
     ∷ codes "i2c: bits before the first start or stop, which are not decoded: 3" ∷ []
 unfolding remarks runs_begun value_from bus_events bits_until bits_after_last_byte bits_after_stops digits
-    doubtful_acknowledges ends_in_transfer joint_edges least count_from doubled raised brief_high_runs
+    doubtful_acknowledges ends_in_transfer joint_edges least count_from doubled raised brief_runs
 rough_i2c = refl
 
 -- a bit before a stop, and one after it
@@ -322,7 +322,7 @@ stopped_i2c : remarks (capture 20 (wire (codes "scl") (from 0 Zero ∷ from 5 On
     ≡ codes "i2c: bits before the first start or stop, which are not decoded: 1"
     ∷ codes "i2c: bits after the last byte, which are not decoded: 1" ∷ []
 unfolding remarks runs_begun value_from bus_events bits_until bits_after_last_byte bits_after_stops digits
-    doubtful_acknowledges ends_in_transfer joint_edges least count_from doubled raised brief_high_runs
+    doubtful_acknowledges ends_in_transfer joint_edges least count_from doubled raised brief_runs
 stopped_i2c = refl
 
 -- ten bits after a start: a byte with its acknowledge, and one more
@@ -333,7 +333,7 @@ started_i2c : remarks (capture 30 (wire (codes "scl") (from 0 One ∷ from 3 Zer
     ≡ codes "i2c: bits after the last byte, which are not decoded: 1"
     ∷ codes "i2c: the last transfer has no stop" ∷ []
 unfolding remarks runs_begun value_from bus_events bits_until bits_after_last_byte bits_after_stops digits
-    doubtful_acknowledges ends_in_transfer joint_edges least count_from doubled raised brief_high_runs
+    doubtful_acknowledges ends_in_transfer joint_edges least count_from doubled raised brief_runs
 started_i2c = refl
 
 -- both lines fall at 3, after a stop, so that the start is lost
@@ -343,5 +343,5 @@ lost_start_i2c : remarks (capture 20 (wire (codes "scl") (from 0 One ∷ from 3 
     ≡ codes "i2c: bits after a stop and before the next start or stop, which are not decoded: 2"
     ∷ codes "i2c: ticks at which SCL and SDA change, so that a start or stop may be lost, or a bit be wrong: 1" ∷ []
 unfolding remarks runs_begun value_from bus_events bits_until bits_after_last_byte bits_after_stops digits
-    doubtful_acknowledges ends_in_transfer joint_edges least count_from doubled raised brief_high_runs
+    doubtful_acknowledges ends_in_transfer joint_edges least count_from doubled raised brief_runs
 lost_start_i2c = refl

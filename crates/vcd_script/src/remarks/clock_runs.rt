@@ -1,7 +1,7 @@
 //! The lengths of the runs of a clock: what runs of each level often have, and which are much
 //! shorter, such as spikes.
 
-ghost use Rattle.std.specs.Prelude.{◌≡◌, ◌≤◌, ◌/◌, ◌&&◌, nat_lt, max, length};
+ghost use Rattle.std.specs.Prelude.{◌≡◌, ◌≤◌, ◌&&◌, nat_lt, length};
 ghost use Rattle.vcd_core.specs.CaptureContents.{contents};
 ghost use Rattle.vcd_core.specs.Contents.{signal_at};
 ghost use Rattle.vcd_script.specs.ClockRuns as spec;
@@ -18,34 +18,42 @@ use vcd_core::{Bit, Capture, Change};
 pub struct ClockRuns {
     /// How many have less than half of the ticks that runs of their level often have.
     pub brief: u64,
-    /// How many of these are runs in which it is not low.
-    pub brief_high: u64,
     /// Half of the ticks that a run of each level often has together: half a period, also of a
     /// clock whose pulses are narrow.
     pub half_period: u64,
 }
 
-/// The runs of the clock at a position.
+/// The runs of a CLK of `spi` at a position. More than an eighth of its runs are no pauses.
 ///
 /// It goes over the changes ten times, and once more for each power of two between the shortest run
 /// of a level and what runs of that level often have.
-pub fn clock_runs_at(capture: &Capture, clock: usize) -> ClockRuns
-    ensures brief { result.brief ≡ spec.brief_runs (contents capture.now).end
-        (signal_at (contents capture.now) clock) }
-    ensures brief_high { result.brief_high ≡ spec.brief_high_runs (contents capture.now).end
-        (signal_at (contents capture.now) clock) }
+pub fn clk_runs_at(capture: &Capture, clk: usize) -> ClockRuns
+    ensures brief { result.brief ≡ spec.brief_runs 8 8 (contents capture.now).end
+        (signal_at (contents capture.now) clk) }
     ensures half_period { result.half_period ≡ spec.half_period (contents capture.now).end
-        (signal_at (contents capture.now) clock) }
+        (signal_at (contents capture.now) clk) }
 {
-    let changes = changes_at(capture, clock);
+    let changes = changes_at(capture, clk);
     let end = capture.end();
-    let low = level_runs(changes, end, true);
-    let high = level_runs(changes, end, false);
+    let low = level_runs(changes, end, true, 8);
+    let high = level_runs(changes, end, false, 8);
     ClockRuns {
         brief: low.brief.saturating_add(high.brief),
-        brief_high: high.brief,
         half_period: low.usual_ticks.midpoint(high.usual_ticks),
     }
+}
+
+/// How many runs of an SCL at a position have less than half of the ticks that runs of their level
+/// often have. A device may stretch up to a quarter of those in which it is low.
+pub fn brief_runs_of_scl(capture: &Capture, scl: usize) -> u64
+    ensures { result ≡ spec.brief_runs 4 8 (contents capture.now).end
+        (signal_at (contents capture.now) scl) }
+{
+    let changes = changes_at(capture, scl);
+    let end = capture.end();
+    let low = level_runs(changes, end, true, 4);
+    let high = level_runs(changes, end, false, 8);
+    low.brief.saturating_add(high.brief)
 }
 
 /// The runs of a level of a clock.
@@ -57,16 +65,18 @@ struct LevelRuns {
     brief: u64,
 }
 
-/// The runs of a level, or of the other one.
-fn level_runs(changes: &[Change], end: u64, is_low: bool) -> LevelRuns
+/// The runs of a level, or of the other one. Those often have a number of ticks of which more than
+/// one, and more than one in `share`, have as many.
+fn level_runs(changes: &[Change], end: u64, is_low: bool, share: u64) -> LevelRuns
+    requires { 1 ≤ share }
     ensures usual { result.usual_ticks
-        ≡ spec.usual_ticks end (ticks_of_level is_low end (runs_begun end changes.now)) }
+        ≡ spec.usual_ticks share end (ticks_of_level is_low end (runs_begun end changes.now)) }
     ensures brief { result.brief
-        ≡ spec.brief_count end (ticks_of_level is_low end (runs_begun end changes.now)) }
+        ≡ spec.brief_count share end (ticks_of_level is_low end (runs_begun end changes.now)) }
     ensures few { result.brief ≤ length changes.now }
 {
     let all = count_from(changes, end, is_low, 0);
-    let usual_ticks = usual_ticks(changes, end, is_low, all);
+    let usual_ticks = usual_ticks(changes, end, is_low, share, all);
     LevelRuns {
         usual_ticks,
         brief: all.saturating_sub(count_from(changes, end, is_low, usual_ticks.div_ceil(2))),
@@ -75,15 +85,16 @@ fn level_runs(changes: &[Change], end: u64, is_low: bool) -> LevelRuns
 
 /// How many ticks the runs of a level often have, of which there are `all`: those of the shortest,
 /// doubled as often as may be, and perhaps half as many again.
-fn usual_ticks(changes: &[Change], end: u64, is_low: bool, all: u64) -> u64
-    requires { all ≡ length (ticks_of_level is_low end (runs_begun end changes.now)) }
+fn usual_ticks(changes: &[Change], end: u64, is_low: bool, share: u64, all: u64) -> u64
+    requires share { 1 ≤ share }
+    requires all { all ≡ length (ticks_of_level is_low end (runs_begun end changes.now)) }
     ensures { result
-        ≡ spec.usual_ticks end (ticks_of_level is_low end (runs_begun end changes.now)) }
+        ≡ spec.usual_ticks share end (ticks_of_level is_low end (runs_begun end changes.now)) }
 {
-    let eighth = (all / 8).max(1);
-    let ticks = doubled_ticks(changes, end, is_low, eighth);
+    let few = (all / share).max(1);
+    let ticks = doubled_ticks(changes, end, is_low, few);
     let more = ticks.saturating_add(ticks / 2);
-    if is_often_reached(changes, end, is_low, eighth, more) {
+    if is_often_reached(changes, end, is_low, few, more) {
         return more;
     }
     ticks
@@ -92,8 +103,7 @@ fn usual_ticks(changes: &[Change], end: u64, is_low: bool, all: u64) -> u64
 /// How many ticks the shortest run of a level has, doubled as long as more than `few` runs have as
 /// many.
 fn doubled_ticks(changes: &[Change], end: u64, is_low: bool, few: u64) -> u64
-    requires { few ≡ max (length (ticks_of_level is_low end (runs_begun end changes.now)) / 8) 1 }
-    ensures { result ≡ spec.doubled 64 end
+    ensures { result ≡ spec.doubled 64 few end
         (spec.least (ticks_of_level is_low end (runs_begun end changes.now)))
         (ticks_of_level is_low end (runs_begun end changes.now)) }
 {

@@ -16,7 +16,7 @@ use crate::remarks::beginnings::{
     append_fall_remark, append_idle_remark, append_selected_remark, append_unfinished_remark,
 };
 use crate::remarks::bus::append_bus_remarks;
-use crate::remarks::clock_runs::clock_runs_at;
+use crate::remarks::clock_runs::{brief_runs_of_scl, clk_runs_at};
 use crate::remarks::frame_edges::append_frame_edges_remark;
 use crate::remarks::places::{DecoderLine, append_lost_remark};
 use crate::remarks::run_lengths::{append_long_runs_remark, append_short_runs_remark, spikes_of};
@@ -109,7 +109,7 @@ fn append_clk_and_data_remarks(
         ++ samples_remarks (contents capture.now) setup.now clk cs (codes "MOSI") mosi
         ++ samples_remarks (contents capture.now) setup.now clk cs (codes "MISO") miso)) }
 {
-    let clock = clock_runs_at(capture, clk);
+    let clock = clk_runs_at(capture, clk);
     append_clk_remarks(text, capture, number, clk, clock.brief)?;
     let half = clock.half_period;
     append_data_remarks(text, capture, number, clk, b"MOSI", mosi, cs, setup, half)?;
@@ -154,7 +154,7 @@ fn append_clk_remarks(
     brief: u64,
 ) -> MemoryResult<()>
     requires clk { IsScalarAt (contents capture.now) clk }
-    requires brief { brief ≡ clocks.brief_runs (contents capture.now).end
+    requires brief { brief ≡ clocks.brief_runs 8 8 (contents capture.now).end
         (signal_at (contents capture.now) clk) }
     ensures { OnOk result (text.new.items ≡ text.old.items ++ remarks_text number
         (line_remark (contents capture.now) false (codes "spi: CLK") clk
@@ -217,7 +217,7 @@ pub fn append_i2c_remarks(
         text,
         number,
         b"i2c: runs of SCL much shorter than others, such as spikes: ",
-        clock_runs_at(capture, scl).brief_high,
+        brief_runs_of_scl(capture, scl),
     )?;
     append_bus_remarks(text, capture, number, scl, sda)?;
     Ok(())

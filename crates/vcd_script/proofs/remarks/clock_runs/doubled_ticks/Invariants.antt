@@ -6,6 +6,6 @@ use Rattle.vcd_script.proofs.remarks.clock_runs.doubled_ticks.Given as goal
 
 abbrev pub invariant-loop : goal.invariant-loop
 invariant-loop l =
-    doubled (64 - l.counter) l.end l.ticks (ticks_of_level l.is_low l.end (runs_begun l.end l.changes))
-    ≡ doubled 64 l.end (least (ticks_of_level l.is_low l.end (runs_begun l.end l.changes)))
+    doubled (64 - l.counter) l.few l.end l.ticks (ticks_of_level l.is_low l.end (runs_begun l.end l.changes))
+    ≡ doubled 64 l.few l.end (least (ticks_of_level l.is_low l.end (runs_begun l.end l.changes)))
     (ticks_of_level l.is_low l.end (runs_begun l.end l.changes))

@@ -5,8 +5,8 @@ use Rattle.vcd_script.specs.ValueRuns.{runs_begun}
 use Rattle.vcd_script.proofs.remarks.LevelRuns.{all_from_zero}
 use Rattle.vcd_script.proofs.remarks.clock_runs.level_runs.Goals as goal
 
-pub usual_ticks-usual_ticks-requires : goal.usual_ticks-usual_ticks-requires
-usual_ticks-usual_ticks-requires c =
+pub usual_ticks-usual_ticks-requires-clause-all : goal.usual_ticks-usual_ticks-requires-clause-all
+usual_ticks-usual_ticks-requires-clause-all c =
     c.count_from-all.ensures.count
     ∙ all_from_zero (ticks_of_level c.args.is_low c.args.end (runs_begun c.args.end c.args.changes.now))
 
