@@ -68,8 +68,8 @@ RUNS = [
     ("none A", 4, [], {}, "none: No such file"), ("sub A", 4, [], {}, "sub: Is a directory"),
     ("script A --to ''", 4, [], {}, "No such file"), ("script A --jobs 0", 2, [], {}, "--jobs is 1 or more"),
     ("script A --jobs 1_0", 2, [], {}, "--jobs is 1 or more"),
-    ("script A ./A", 2, [], {}, "two captures would be one file"),
-    ("script A kept/A --to sub", 2, [], {}, "two captures would be one file"),
+    ("script A ./A", 2, [], {}, "two captures would be one file: A and ./A"),
+    ("script A kept/A --to sub", 2, [], {}, "two captures would be one file: A and kept/A"),
     # A program that has the capture open does not write it.
     ("script A 7<A", 0, ["A: written: 1 ok"], {"A": DONE}),
     # A standard stream is closed or full: each line comes on the other, or not at all.
