@@ -177,11 +177,17 @@ changes_taken_out from to value before (c ∷ cs) =
     (if is_change_taken_out from to value before c then 1 else 0)
     + changes_taken_out from to value c.value cs
 
--- the remark on a `force`; none if it takes out no change
-abbrev pub force_remarks : (from to : ℕ) → (value : List Bit) → SignalContents → List (List ℕ)
-force_remarks from to value s =
+-- the text of the remark on a `force` up to the last tick, which is not forced
+abbrev pub last_tick_text : List ℕ
+last_tick_text = codes "force: TO is the last tick, at which the signal keeps its value"
+
+-- the remarks on a `force` in a capture up to this end
+abbrev pub force_remarks : (from to end : ℕ) → (value : List Bit) → SignalContents
+    → List (List ℕ)
+force_remarks from to end value s =
     count_remark (codes "force: changes taken out, whose time stamps stay: ")
     (changes_taken_out from to value (all_x s.width) s.changes)
+    ++ (if to == end then last_tick_text ∷ [] else [])
 
 -- whether a `:` (58) comes behind the last `[` (91) of a word
 abbrev pub has_colon_in_brackets : List ℕ → Bool
@@ -238,7 +244,7 @@ edit_remarks (Deglitch k ticks) c =
 edit_remarks (Shift k by) c = shift_remarks c.end by (signal_at c k).changes
 edit_remarks (Invert k) c = invert_remarks (signal_at c k).changes
 edit_remarks (Remove k) c = remove_remarks k (length c.signals)
-edit_remarks (Force k from to value) c = force_remarks from to value (signal_at c k)
+edit_remarks (Force k from to value) c = force_remarks from to c.end value (signal_at c k)
 edit_remarks (Cut from to) c = cut_remark from (to - from) ∷ []
 edit_remarks (Derive word rule) c = rule_remarks rule c
 edit_remarks e c = []

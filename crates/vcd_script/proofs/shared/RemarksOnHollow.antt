@@ -140,7 +140,7 @@ module _ (others : List OtherChanges) (c : Contents) where
   same_edit (Shift k by) own = λ i. shift_remarks c.end by (same_signal others c k own.0 i).changes
   same_edit (Invert k) own = λ i. invert_remarks (same_signal others c k own.0 i).changes
   same_edit (Remove k) own = ap (remove_remarks k) same_count
-  same_edit (Force k from to value) own = λ i. force_remarks from to value (same_signal others c k own.0 i)
+  same_edit (Force k from to value) own = λ i. force_remarks from to c.end value (same_signal others c k own.0 i)
   same_edit (Derive word rule) own = same_rule rule own
   same_edit e own = refl
 

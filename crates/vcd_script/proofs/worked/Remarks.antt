@@ -68,6 +68,11 @@ masked : remarks_on_edit (Force 0 5 7 (Zero ∷ [])) ≡ codes "force: changes t
 unfolding remarks edit_fault changes_taken_out digits
 masked = refl
 
+forced_up_to_the_end : remarks_on_edit (Force 0 15 20 (One ∷ []))
+    ≡ codes "force: TO is the last tick, at which the signal keeps its value" ∷ []
+unfolding remarks edit_fault changes_taken_out digits
+forced_up_to_the_end = refl
+
 unchanged : remarks_on_edit (Force 0 5 7 (One ∷ [])) ≡ []
 unfolding remarks edit_fault changes_taken_out digits
 unchanged = refl

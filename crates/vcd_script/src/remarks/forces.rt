@@ -1,17 +1,18 @@
-//! The remark on a `force`.
+//! The remarks on a `force`.
 
-ghost use Rattle.std.specs.Prelude.{◌≡◌, ◌++◌, OnOk};
+ghost use Rattle.std.specs.Prelude.{◌≡◌, ◌++◌, [], ◌∷◌, if◌then◌else◌, OnOk};
 ghost use Rattle.vcd_core.specs.CaptureContents.{contents};
 ghost use Rattle.vcd_edit.specs.declared.edit.Edit.TheVariants as edits;
 ghost use Rattle.vcd_script.specs.Remarks as spec;
 ghost use Rattle.vcd_script.specs.Remarks.{remarks_text};
 
-use crate::remarks::appending::append_count_remark;
+use crate::remarks::appending::{append_count_remark, append_remark_head};
 use crate::remarks::runs::{changes_at, x_value_at};
 use crate::replies::MemoryResult;
+use crate::replies::appending::append_bytes;
 use vcd_core::{Capture, Change, Value};
 
-/// Appends the remark on the changes that a `force` takes out of a signal, unless there is none.
+/// Appends the remarks on the changes that a `force` takes out of a signal, and on the last tick.
 pub fn append_force_remark(
     text: &mut Vec<u8>,
     capture: &Capture,
@@ -31,7 +32,25 @@ pub fn append_force_remark(
         number,
         b"force: changes taken out, whose time stamps stay: ",
         count,
-    )
+    )?;
+    append_last_tick_remark(text, number, to == capture.end())?;
+    Ok(())
+}
+
+/// Appends the remark on a `force` up to the last tick, if it is one.
+fn append_last_tick_remark(text: &mut Vec<u8>, number: u64, is_last: bool) -> MemoryResult<()>
+    ensures { OnOk result (text.new.items ≡ text.old.items
+        ++ remarks_text number (if is_last then spec.last_tick_text ∷ [] else [])) }
+{
+    if !is_last {
+        return Ok(());
+    }
+    append_remark_head(text, number)?;
+    append_bytes(
+        text,
+        b"force: TO is the last tick, at which the signal keeps its value\n",
+    )?;
+    Ok(())
 }
 
 /// How many changes of a signal, which is `first` before them, are none any more once it has

@@ -48,6 +48,8 @@ invert top.d =>
 force top.a 3 15 1 => force: changes taken out, whose time stamps stay: 5
 force top.a 5 7 0 => force: changes taken out, whose time stamps stay: 2
 force top.a 5 7 z =>
+force top.a 16 40 1 => force: TO is the last tick, at which the signal keeps its value
+force top.a 16 41 1 =>
 cut 9 4 =>
 cut 4 9 => cut: the capture is joined at tick 4, and later ticks are 5 fewer from here on: \
 what is decoded across the join may be wrong
