@@ -10,12 +10,11 @@ use crate::printing::{DONE, Failure, allow, refuse};
 use std::alloc::Global;
 use std::rt::Runtime;
 use vcd_amend::{AmendedCode, Amendment, DeclaredVariable, amend, declared_variables};
+use vcd_copy::{AmendableItem, Amender, CopyError, InPlace, copy};
 use vcd_core::{
     Bit, DeviceFault, FromRead, NoMemory, ScopeName, Sink, ToWrite, Value, Wave, copy_word,
 };
-use vcd_text::{
-    AmendableItem, Amender, CopyError, InPlace, Output, VARIABLE_LIMIT, copy, write_bytes,
-};
+use vcd_text::{Output, VARIABLE_LIMIT, write_bytes};
 
 /// Lets all items stand, each `$var` with a copy of its words. Memory may be refused after the
 /// white space before them.

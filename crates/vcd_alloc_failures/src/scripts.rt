@@ -6,7 +6,7 @@ use std::alloc::Global;
 use std::io;
 use std::io::Write;
 use std::rt::Runtime;
-use vcd_amend::{AmendRefusal, AmendRunError, amend_on_bytes};
+use vcd_amend_run::{AmendRefusal, AmendRunError, amend_on_bytes};
 use vcd_core::NoMemory;
 use vcd_script::{RunError, RunRefusal, RunTexts, Stage, run_on_bytes};
 

@@ -8,7 +8,6 @@ pub mod StampedItems
 pub mod DueText
 pub mod Stamps
 pub mod Values
-pub mod Variables
 pub mod SeenItems
 pub mod AnyLimit
 pub mod HeldPieces

@@ -9,3 +9,4 @@ pub mod Pieces
 pub mod Stamps
 pub mod ChangesAtTicks
 pub mod Order
+pub mod NoCut

@@ -1,2 +1,3 @@
 -- Lemmas: shared.
 pub mod Lists
+pub mod Variables

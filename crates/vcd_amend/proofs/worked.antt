@@ -1,4 +1,2 @@
 -- Worked cases.
 pub mod AmendedFiles
-pub mod EditedFiles
-pub mod OutputRemarks

@@ -5,8 +5,8 @@ use Rattle.std.specs.List.{flat_map, join_with_byte}
 use Rattle.vcd_text.specs.Items.{spelling}
 use Rattle.vcd_text.specs.Grammar.{ParseState, initial_state, state_after_item, AllowsAll}
 use Rattle.vcd_text.specs.Text.{item_line}
-use Rattle.vcd_text.specs.Pieces.{Piece, IsCut, state_of_pieces}
-use Rattle.vcd_text.specs.Copied.{CopyRules, copied}
+use Rattle.vcd_copy.specs.Pieces.{Piece, IsCut, state_of_pieces}
+use Rattle.vcd_copy.specs.Copied.{CopyRules, copied}
 use Rattle.vcd_amend.specs.Amendment.{Amendment}
 use Rattle.vcd_amend.specs.AmendedItems.{item_fate, inserted_items, items_due_at, still_none_yet}
 use Rattle.vcd_amend.specs.AmendedText.{bytes_in_place, amended_text}

@@ -12,7 +12,7 @@ use Rattle.vcd_amend.specs.Amendment.{Amendment}
 use Rattle.vcd_amend.specs.AmendedItems.{ItemFate, stands, is_left_out, is_exchanged, item_fate}
 use Rattle.vcd_amend.specs.AmendedItems.{inserted_items, items_due_at, still_none_yet}
 use Rattle.vcd_amend.specs.AmendedMeaning.{FitsFile, amended_meaning}
-use Rattle.vcd_text.specs.Pieces.{Piece, IsCut, state_of_pieces}
+use Rattle.vcd_copy.specs.Pieces.{Piece, IsCut, state_of_pieces}
 
 -- the first of words, or no byte
 abbrev pub next_word : List (List ℕ) → List ℕ

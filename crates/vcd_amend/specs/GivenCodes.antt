@@ -15,7 +15,7 @@ use Rattle.vcd_text.specs.Grammar.{VariableDeclaration, ParseState, kept_variabl
 use Rattle.vcd_text.specs.Grammar.{initial_state, AllowsAll}
 use Rattle.vcd_text.specs.Meaning.{declared_signal, meaning, FileMeans}
 use Rattle.vcd_amend.specs.Amendment.{Amendment, AmendedCode, first_with_code}
-use Rattle.vcd_text.specs.Pieces.{Piece, IsCut, state_of_pieces}
+use Rattle.vcd_copy.specs.Pieces.{Piece, IsCut, state_of_pieces}
 use Rattle.vcd_amend.specs.AmendedText.{amended_text}
 use Rattle.vcd_amend.specs.FreshCodes.{fresh_code}
 use Rattle.vcd_amend.specs.CodedAmendment.{CodedSignal, AreAlike, CodesFit, coded_amendment}

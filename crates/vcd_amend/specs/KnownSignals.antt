@@ -6,7 +6,7 @@ use Rattle.vcd_core.specs.Contents.{SignalContents}
 use Rattle.vcd_text.specs.Grammar.{VariableDeclaration, ParseState, kept_variables}
 use Rattle.vcd_text.specs.Meaning.{declared_signal}
 use Rattle.vcd_amend.specs.Amendment.{Amendment}
-use Rattle.vcd_amend.specs.AmendedRun.{signal_from}
+use Rattle.vcd_core.specs.SignalOrigins.{signal_from}
 use Rattle.vcd_amend.specs.GivenCodes.{amendment_for}
 
 -- what is known of a variable with these changes in the file, by its first signal and by the one

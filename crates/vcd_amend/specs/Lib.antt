@@ -13,16 +13,5 @@ pub mod WhatStands
 pub mod Retimed
 pub mod RetimedLaws
 pub mod RetimedCopy
-pub mod AmendedRun
-pub mod EditedText
-pub mod EditsInForce
 pub mod KnownSignals
-pub mod FileParts
-pub mod NewNames
-pub mod AmendRun
-pub mod AmendRunEnds
-pub mod MarkedRun
-pub mod OutputRemarks
-pub mod TakenRemarks
-pub mod AmendOnBytes
 pub mod inside

@@ -9,7 +9,7 @@ use Rattle.vcd_core.specs.Contents.{Contents, SignalContents, signal_value}
 use Rattle.vcd_text.specs.Items.{Item, stamp, scalar, vector, real_or_string, spelling}
 use Rattle.vcd_text.specs.Grammar.{ParseState, state_after_item, is_skipped}
 use Rattle.vcd_amend.specs.AmendedItems.{ItemFate, stands, is_left_out, is_exchanged}
-use Rattle.vcd_text.specs.Pieces.{Piece, stamp_line}
+use Rattle.vcd_copy.specs.Pieces.{Piece, stamp_line}
 
 -- ---- ticks
 

@@ -8,7 +8,7 @@ use Rattle.vcd_text.specs.Items.{Item, stamp}
 use Rattle.vcd_text.specs.Grammar.{VariableDeclaration, ParseState, initial_state}
 use Rattle.vcd_text.specs.Grammar.{AllowsAll, is_skipped}
 use Rattle.vcd_text.specs.Meaning.{FileMeans, meaning}
-use Rattle.vcd_text.specs.Pieces.{Piece, IsCut, state_of_pieces}
+use Rattle.vcd_copy.specs.Pieces.{Piece, IsCut, state_of_pieces}
 use Rattle.vcd_amend.specs.Retimed.{new_tick, AreOldTicks, ChangeKey, change_key, code_of_key}
 use Rattle.vcd_amend.specs.Retimed.{has_kept_variable, counts_with, lasts, retimed_pieces}
 use Rattle.vcd_amend.specs.Retimed.{retimed_contents}

@@ -7,6 +7,7 @@ use Rattle.std.specs.Prelude.{bytes_eq, count_by}
 use Rattle.std.specs.List.{flat_map, list_all, list_any, zip, join_with_byte}
 use Rattle.std.specs.Cmp.Lexicographic.{pointwise}
 use Rattle.vcd_core.specs.Decimal.{number_of}
+use Rattle.vcd_core.specs.Word.{is_one_of}
 use Rattle.vcd_core.specs.Value.{same_letters}
 use Rattle.vcd_core.specs.Wave.{value_at}
 use Rattle.vcd_core.specs.Contents.{SignalContents}
@@ -20,9 +21,10 @@ use Rattle.vcd_text.specs.Grammar.{word_texts}
 use Rattle.vcd_text.specs.Meaning.{declared_signal, meaning, FileMeans}
 use Rattle.vcd_text.specs.Text.{item_line}
 use Rattle.vcd_amend.specs.Amendment.{Amendment, amended_code, wave_has_change}
-use Rattle.vcd_text.specs.Pieces.{Piece, IsCut, state_of_pieces}
+use Rattle.vcd_copy.specs.Pieces.{Piece, IsCut, state_of_pieces}
 use Rattle.vcd_amend.specs.AmendedText.{amended_text}
 use Rattle.vcd_amend.specs.GivenCodes.{AreSignalsOf, is_unchanged, signals_left, amendment_for}
+use Rattle.vcd_amend.specs.GivenCodes.{held_codes}
 
 -- ---- which items may go, and which may come
 
@@ -84,6 +86,26 @@ may_come a signals (variable words) = list_any (declares words) signals
 may_come a signals (scalar digit code) = is_some (amended_code code a.codes)
 may_come a signals (vector first digits code) = is_some (amended_code code a.codes)
 may_come a signals item = false
+
+-- whether a code keeps its wave, if these signals are left of the kept variables of a file: a
+-- skipped variable has it, or one that is left with its wave
+abbrev pub keeps_wave : ParseState → (remaining : List (Option SignalContents))
+    → (code : List ℕ) → Bool
+keeps_wave s remaining code =
+    list_any (λ d. is_skipped d && bytes_eq code d.code) s.declared
+    || is_one_of (held_codes s (kept_variables s.declared) remaining) code
+
+-- whether an item may be put in: a stamp, a scope or its end, the declaration of one of these
+-- signals, or a change of a code that does not keep its wave
+abbrev pub may_be_put_in : ParseState → (remaining : List (Option SignalContents))
+    → (signals : List SignalContents) → Item → Bool
+may_be_put_in s remaining signals (stamp digits) = true
+may_be_put_in s remaining signals (scope kind words) = true
+may_be_put_in s remaining signals upscope = true
+may_be_put_in s remaining signals (variable words) = list_any (declares words) signals
+may_be_put_in s remaining signals (scalar digit code) = not (keeps_wave s remaining code)
+may_be_put_in s remaining signals (vector first digits code) = not (keeps_wave s remaining code)
+may_be_put_in s remaining signals item = false
 
 -- ---- the law
 

@@ -1,15 +1,6 @@
 -- Definitions that only contracts of private functions and proofs cite. A reader need not believe
 -- them.
-pub mod CaptureAfterCuts
 pub mod CutTicks
 pub mod declarations
-pub mod HeardNames
-pub mod NameHash
-pub mod OutputRemarks
-pub mod Running
-pub mod dry_running
-pub mod WithWaves
 pub mod coding
-pub mod NewNames
-pub mod SkippedNames
 pub mod amending

@@ -3,9 +3,9 @@
 ghost use Rattle.std.specs.Prelude.{◌≡◌, ◌≤◌, List, ℕ, true, false, length, OnOk, IfErr, IfSome};
 ghost use Rattle.std.specs.Prelude.{All};
 ghost use Rattle.std.specs.Io.KnownBytes.{Appends, IsAtEnd};
-ghost use Rattle.vcd_text.specs.CopyEnds.{CopyFails};
-ghost use Rattle.vcd_text.specs.Marks.{IsMarkedFile};
-ghost use Rattle.vcd_text.specs.MarkText.{piece_of_mark};
+ghost use Rattle.vcd_copy.specs.CopyEnds.{CopyFails};
+ghost use Rattle.vcd_copy.specs.Marks.{IsMarkedFile};
+ghost use Rattle.vcd_copy.specs.MarkText.{piece_of_mark};
 ghost use Rattle.vcd_text.specs.declared.reading.TheConstants.{LONG_FILE_LIMIT};
 ghost use Rattle.vcd_amend.specs.AmendedCopy.{IsAmended};
 ghost use Rattle.vcd_amend.specs.AmendedMeaning.{AreApart};
@@ -28,8 +28,8 @@ use crate::cut_ticks::CutTicks;
 use cut_amender::CutAmender;
 use file_amender::FileAmender;
 use std::alloc::Global;
+use vcd_copy::{CopyError, Mark, Marked, copy};
 use vcd_core::{Sink, Source};
-use vcd_text::{CopyError, Mark, Marked, copy};
 
 /// Reads a capture file, and writes the amended file. The writer is flushed once, after the last
 /// byte. A file has at most `LONG_FILE_LIMIT` bytes and `limit` kept variables.

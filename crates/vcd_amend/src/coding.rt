@@ -4,7 +4,7 @@
 ghost use Rattle.std.specs.Prelude.{◌≡◌, ◌≤◌, length, map, drop, IfOk};
 ghost use Rattle.vcd_core.specs.CaptureContents.{contents, signal_contents};
 ghost use Rattle.vcd_text.specs.Grammar.{kept_variables, ParseState};
-ghost use Rattle.vcd_journal.specs.Origins.{RiseWithin, ComeFrom};
+ghost use Rattle.vcd_core.specs.SignalOrigins.{RiseWithin, ComeFrom};
 ghost use Rattle.vcd_amend.specs.AmendedMeaning.{AreApart};
 ghost use Rattle.vcd_amend.specs.AmendmentContents.{amendment_contents};
 ghost use Rattle.vcd_amend.specs.DeclaredVariables.{declaration_of_variable};

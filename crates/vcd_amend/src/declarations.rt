@@ -5,7 +5,7 @@ ghost use Rattle.std.specs.Prelude.{IfSome};
 ghost use Rattle.vcd_text.specs.Words.{words_of};
 ghost use Rattle.vcd_text.specs.Grammar as spec;
 ghost use Rattle.vcd_text.specs.Grammar.{ParseState, Accepts};
-ghost use Rattle.vcd_text.specs.CopyEnds.{CopyFails, ReadFails};
+ghost use Rattle.vcd_copy.specs.CopyEnds.{CopyFails, ReadFails};
 ghost use Rattle.vcd_text.specs.declared.reading.TheConstants.{LONG_FILE_LIMIT};
 ghost use Rattle.vcd_amend.specs.DeclaredVariables.{declaration_of_variable};
 
@@ -18,8 +18,9 @@ use collector::Collector;
 use nowhere::Nowhere;
 use std::alloc::Global;
 use variable_size::VariableSize;
+use vcd_copy::{CopyError, copy};
 use vcd_core::{NameWords, ScopePath, Source, WIDTH_LIMIT, Word, is_skipped_kind};
-use vcd_text::{CopyError, Fault, ReadError, copy};
+use vcd_text::{Fault, ReadError};
 
 /// A variable that a file declares.
 #[derive(Drop)]

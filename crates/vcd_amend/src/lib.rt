@@ -1,60 +1,35 @@
 //! Amended files: a capture file whose bytes stand, except where another capture asks for others.
 //!
-//! [`amend_run`] carries a script out on a capture file, and writes the file as it is after the
-//! script. It reads the file four times, and holds only the changes that lines of the script ask
-//! for: [`declared_variables`] gives what the file declares, [`read_outline`] its capture without a
-//! change, [`dry_run`] which changes lines ask for, and [`read_heard`] these. From the captures
-//! before and after the script [`amendment_for`] makes an [`Amendment`]: what becomes of the file's
-//! variables, which ones are added, and which codes are to mean another wave. With it [`amend`]
-//! copies the file. [`amend_on_bytes`] is `amend_run` with bytes in memory:
-//!
-//! ```rust
-//! let capture = b"$var real 64 % volt $end $var wire 1 ! rx $end $enddefinitions $end
-//! #0 1! r2.5 % #20 0! #22 1! r3.25 % #90";
-//! let texts = amend_on_bytes(alloc, capture, b"deglitch rx 3\nvalue rx 21\n", 100)?;
-//! // texts.output has `#0 1! r2.5 % #20 #22 r3.25 % #90` in its last line
-//! ```
+//! [`declared_variables`] gives what a file declares. From the captures before and after a script
+//! [`amendment_for`] makes an [`Amendment`]: what becomes of the file's variables, which ones are
+//! added, and which codes are to mean another wave. With it [`amend_marked`] copies the file, with
+//! ticks cut out, and with a mark. The `vcd_amend_run` crate joins these to a run.
 //!
 //! The definitions say what the amended file is, byte for byte, and the laws that it means the
-//! capture after the script, with cuts among its edits.
+//! other capture.
 #![tactic(auto)]
 
-mod after_cuts;
 mod amending;
 mod amendment;
 mod coding;
 mod cut_ticks;
 mod declarations;
-mod dry_running;
-mod heard_names;
-mod hearing;
 mod laws;
-mod name_hash;
-mod new_names;
-mod on_bytes;
-mod outlining;
-mod remarks;
-mod running;
-mod sharing;
-mod skipped_names;
 
+pub use amending::code_uses::{CodeUse, first_uses};
+pub use amending::cut_amender::is_event;
+pub use amending::file_amender::{VariableLeft, later_fates, next_fate, use_left};
 pub use amending::{amend, amend_after_cuts, amend_marked};
 pub use amendment::{AddedVariable, AmendedCode, Amendment, Fate};
 pub use coding::amendment_for;
+pub use coding::code_set::{CodeSet, add_code, has_code};
 pub use cut_ticks::CutTicks;
 pub use declarations::nowhere::Nowhere;
+pub use declarations::signal_sizes::have_sizes_of;
 pub use declarations::variable_size::VariableSize;
 pub use declarations::{DeclaredVariable, declared_variables};
-pub use dry_running::{DryRun, NoMemoryAt, dry_run};
-pub use hearing::{HearError, read_heard};
 pub use laws::{
-    amended_file_is_read_again, copy_is_amended_text, cuts_in_force_retime_files,
-    edited_file_is_read_again, fresh_codes_are_fresh, lines_in_force_ask_for_edits,
-    named_variables_differ, other_capture_is_read_again, retimed_copy_is_copy_of_retimed,
-    retimed_file_is_meant, signals_remain, untouched_items_stand,
+    amended_file_is_read_again, copy_is_amended_text, fresh_codes_are_fresh,
+    other_capture_is_read_again, retimed_copy_is_copy_of_retimed, retimed_file_is_meant,
+    untouched_items_stand,
 };
-pub use new_names::takes_skipped_name;
-pub use on_bytes::{AmendRefusal, amend_on_bytes};
-pub use outlining::{Outline, read_outline};
-pub use remarks::{append_names_remark, append_removed_remark, output_remarks};
-pub use running::{AmendRunError, Passes, amend_run};

@@ -16,6 +16,7 @@ pub mod Decimal
 pub mod BoundedNumber
 pub mod Sound
 pub mod Outline
+pub mod SignalOrigins
 pub mod Laws
 pub mod Names
 pub mod FullName

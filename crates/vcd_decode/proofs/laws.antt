@@ -2,4 +2,3 @@
 pub mod sent
 pub mod StraightEdges
 pub mod ApartLines
-pub mod SamplesOfWords

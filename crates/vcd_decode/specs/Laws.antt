@@ -16,7 +16,6 @@ use Rattle.vcd_decode.specs.SetupResults.{IsUartSetup}
 use Rattle.vcd_decode.specs.Uart.{uart_annotations}
 use Rattle.vcd_decode.specs.SpiSetup.{SpiSetup}
 use Rattle.vcd_decode.specs.Spi.{segments, spi_annotations}
-use Rattle.vcd_decode.specs.SpiSamples.{sampled_ticks}
 use Rattle.vcd_decode.specs.SpiSent.{SpiWord, HasHalves, WordsFit, SendsClock, MaySendData}
 use Rattle.vcd_decode.specs.SpiSent.{IsChipSelect, sent_word_annotation, sent_partial_annotation}
 use Rattle.vcd_decode.specs.Lines.{letter_before}
@@ -114,15 +113,6 @@ SpiLinesAreApart =
     ≡ spi_annotations u clk None miso cs end)
     × (map (with_kind without_miso) (spi_annotations u clk mosi miso cs end)
     ≡ spi_annotations u clk mosi None cs end)
-
--- ---- samples
-
--- the sampled ticks are those that words are made of: of each part between the ticks at which the
--- chip is not selected, one after the other
-abbrev pub SpiSamplesAreOfWords : Type 0
-SpiSamplesAreOfWords =
-    (u : SpiSetup) (clk : ℕ → Bit) (cs : Option (ℕ → Bit)) (end : ℕ)
-    → flat_map (λ ticks. ticks) (segments u clk cs end) ≡ sampled_ticks u clk cs end
 
 -- ---- an edge through x or z counts for nothing
 

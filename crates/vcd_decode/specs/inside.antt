@@ -5,6 +5,5 @@ pub mod SpiParts
 pub mod UartFrames
 pub mod PartialWord
 pub mod SpiWords
-pub mod SpiSamples
 pub mod SpiSetup
 pub mod i2c_bus

@@ -2,11 +2,8 @@
 
 mod bus_walk;
 mod bytes;
-mod doubts;
 mod events;
-mod joint_edges;
 mod transfer;
 
-pub use bus_walk::i2c;
-pub use doubts::{BusDoubts, i2c_doubts};
-pub use joint_edges::i2c_joint_edges;
+pub use bus_walk::{edge_event, i2c, levels_of};
+pub use events::{BusEvent, BusLevels, is_line_high};

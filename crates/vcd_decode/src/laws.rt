@@ -4,8 +4,7 @@ ghost use Rattle.vcd_decode.specs.Laws.{UartFramesAreFound, SpiWordsAreFound};
 ghost use Rattle.vcd_decode.specs.Laws.{SpiPartialWordIsFound, I2cMessagesAreFound};
 ghost use Rattle.vcd_decode.specs.Laws.{FramesBeginStraight, StraightClocksCount};
 ghost use Rattle.vcd_decode.specs.Laws.{StraightBusEdgesCount, SpiSelectionsAreApart};
-ghost use Rattle.vcd_decode.specs.Laws.{SpiLinesAreApart, SpiSamplesAreOfWords};
-ghost use Rattle.vcd_decode.specs.Laws.{I2cMessagesAreApart};
+ghost use Rattle.vcd_decode.specs.Laws.{SpiLinesAreApart, I2cMessagesAreApart};
 
 /// A line that sends frames, and begins no other, decodes to one annotation for each frame. It
 /// goes from the frame's start to the sample of its last bit. Its kind is `byte` with the word that
@@ -33,13 +32,6 @@ pub fn spi_words_are_found()
 pub fn spi_selections_and_lines_are_apart()
     ensures selections { SpiSelectionsAreApart }
     ensures lines { SpiLinesAreApart }
-{}
-
-/// The samples that [`spi_line_samples`](crate::spi_line_samples) counts are those of the words
-/// that [`spi`](crate::spi) finds: what the parts between the ticks at which the chip is not
-/// selected have of them, one after the other.
-pub fn spi_samples_are_of_words()
-    ensures { SpiSamplesAreOfWords }
 {}
 
 /// What is found of an I2C bus falls in two parts at each STOP. So several messages are found one

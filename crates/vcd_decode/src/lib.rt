@@ -2,7 +2,8 @@
 //! tick.
 //!
 //! A decoder gives the list of its [`Annotation`]s. [`uart`] decodes a line whose frames follow a
-//! [`Uart`], [`spi`] lines whose words follow a [`Spi`], and [`i2c`] a bus.
+//! [`Uart`], [`spi`] lines whose words follow a [`Spi`], and [`i2c`] a bus. The steps of these
+//! walks are there for those who count something along them.
 #![tactic(auto)]
 
 mod annotation;
@@ -11,24 +12,20 @@ mod laws;
 mod letters;
 mod partial_word;
 mod setup_error;
-mod spi_samples;
 mod spi_setup;
 mod spi_words;
-mod uart_edges;
 mod uart_frames;
 mod uart_setup;
 
 pub use annotation::{Annotation, Direction, Kind, LineData};
-pub use i2c_bus::{BusDoubts, i2c, i2c_doubts, i2c_joint_edges};
+pub use i2c_bus::{BusEvent, BusLevels, edge_event, i2c, is_line_high, levels_of};
 pub use laws::{
-    i2c_messages_are_apart, i2c_messages_are_found, spi_samples_are_of_words,
-    spi_selections_and_lines_are_apart, spi_words_are_found, uart_frames_are_found,
-    unclear_edges_count_for_nothing,
+    i2c_messages_are_apart, i2c_messages_are_found, spi_selections_and_lines_are_apart,
+    spi_words_are_found, uart_frames_are_found, unclear_edges_count_for_nothing,
 };
+pub use letters::{is_unclear, is_zero};
 pub use setup_error::SetupError;
-pub use spi_samples::{LineSamples, spi_edges_at_selection_changes, spi_line_samples};
-pub use spi_setup::{BitOrder, GREATEST_MODE, Spi, WORD_BITS_LIMIT};
-pub use spi_words::spi;
-pub use uart_edges::uart_edges_amid_bits;
-pub use uart_frames::uart;
+pub use spi_setup::{BitOrder, GREATEST_MODE, Spi, WORD_BITS_LIMIT, shows_one, shows_zero};
+pub use spi_words::{is_sampling, selects_chip, spi};
+pub use uart_frames::{begins_frame, begun_frame, uart};
 pub use uart_setup::{Parity, RATIO_LIMIT, Uart};

@@ -55,8 +55,7 @@ impl Model for Spi {
 
 impl Spi {
     ghost use Rattle.vcd_decode.specs.inside.SpiParts.{samples_rising_edge};
-    ghost use Rattle.vcd_decode.specs.inside.SpiSetup.{samples_at};
-    ghost use Rattle.vcd_decode.specs.inside.SpiSamples as samples;
+    ghost use Rattle.vcd_decode.specs.inside.SpiSetup as inner;
 
     /// The setup with this mode, this number of bits in a word and this order of bits.
     ///
@@ -107,8 +106,8 @@ impl Spi {
     }
 
     /// Whether bits are sampled where the clock changes from one bit to another.
-    pub(crate) fn samples_at(&self, before: Option<Bit>, at: Option<Bit>) -> bool
-        ensures { result ≡ samples_at self.now.mode before at }
+    pub fn samples_at(&self, before: Option<Bit>, at: Option<Bit>) -> bool
+        ensures { result ≡ inner.samples_at self.now.mode before at }
     {
         if self.samples_rising_edge() {
             shows_zero(before) & shows_one(at)
@@ -118,8 +117,8 @@ impl Spi {
     }
 
     /// Whether a clock is at the level to which the sampling edge goes.
-    pub(crate) fn shows_sampled_level(&self, clk: Option<Bit>) -> bool
-        ensures { result ≡ samples.shows_sampled_level self.now.mode clk }
+    pub fn shows_sampled_level(&self, clk: Option<Bit>) -> bool
+        ensures { result ≡ inner.shows_sampled_level self.now.mode clk }
     {
         if self.samples_rising_edge() {
             shows_one(clk)
@@ -129,8 +128,8 @@ impl Spi {
     }
 
     /// Whether a clock is at the level from which the sampling edge goes.
-    pub(crate) fn shows_waiting_level(&self, clk: Option<Bit>) -> bool
-        ensures { result ≡ samples.shows_waiting_level self.now.mode clk }
+    pub fn shows_waiting_level(&self, clk: Option<Bit>) -> bool
+        ensures { result ≡ inner.shows_waiting_level self.now.mode clk }
     {
         if self.samples_rising_edge() {
             shows_zero(clk)
@@ -148,7 +147,7 @@ impl Spi {
 }
 
 /// Whether a bit is there and is 0.
-pub(crate) fn shows_zero(bit: Option<Bit>) -> bool
+pub fn shows_zero(bit: Option<Bit>) -> bool
     ensures { result ≡ is_present_and spec.is_zero bit }
 {
     match bit {
@@ -158,7 +157,7 @@ pub(crate) fn shows_zero(bit: Option<Bit>) -> bool
 }
 
 /// Whether a bit is there and is 1.
-pub(crate) fn shows_one(bit: Option<Bit>) -> bool
+pub fn shows_one(bit: Option<Bit>) -> bool
     ensures { result ≡ is_present_and spec.is_one bit }
 {
     match bit {

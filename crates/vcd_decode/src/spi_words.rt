@@ -121,14 +121,14 @@ fn deselects_chip(edge: &BitEdge) -> bool
 }
 
 /// Whether the data lines are sampled at an edge.
-pub(crate) fn is_sampling(setup: &Spi, edge: &BitEdge) -> bool
+pub fn is_sampling(setup: &Spi, edge: &BitEdge) -> bool
     ensures { result ≡ is_sampling setup.now edge.now }
 {
     selects_chip(edge.at[3]) & setup.samples_at(edge.before[0], edge.at[0])
 }
 
 /// Whether the chip is selected, by the bit of its line.
-pub(crate) fn selects_chip(cs: Option<Bit>) -> bool
+pub fn selects_chip(cs: Option<Bit>) -> bool
     ensures { result ≡ selects_chip cs }
 {
     match cs {

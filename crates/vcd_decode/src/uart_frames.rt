@@ -69,7 +69,7 @@ fn push_frame(
 }
 
 /// The frame that a fall at the tick `start` begins; the change at `near` is at that tick.
-pub(crate) fn begun_frame(
+pub fn begun_frame(
     wave: &Wave,
     near: usize,
     end: u64,
@@ -150,7 +150,7 @@ fn frame_kind(setup: &Uart, letters: &[Bit]) -> Kind
 }
 
 /// Whether the line falls from 1 to 0 at a tick after the frames so far, which end at `taken`.
-pub(crate) fn begins_frame(before: Bit, letter: Bit, taken: u64, tick: u64) -> bool
+pub fn begins_frame(before: Bit, letter: Bit, taken: u64, tick: u64) -> bool
     ensures { result
         ≡ (lines_spec.is_one before && lines_spec.is_zero letter && nat_lt taken tick) }
 {

@@ -64,7 +64,7 @@ impl Model for Uart {
 
 impl Uart {
     ghost use Rattle.vcd_decode.specs.Uart.{checked_bits, last_bit, sample_offset, is_parity_wrong};
-    ghost use Rattle.vcd_decode.specs.UartEdges.{is_amid_bit};
+    ghost use Rattle.vcd_decode.specs.AmidBit.{is_amid_bit};
 
     /// The setup with bits of `numerator / denominator` ticks, this number of data bits, this
     /// parity bit and this number of stop bits.
@@ -185,7 +185,7 @@ impl Uart {
 
     /// Whether so many ticks after the start of a frame it is more than a quarter of a bit to both
     /// ends of the bit there.
-    pub(crate) fn is_amid_bit(&self, ticks: u64) -> bool
+    pub fn is_amid_bit(&self, ticks: u64) -> bool
         ensures { result ≡ is_amid_bit self.now ticks }
     {
         let bit = u128::from(self.numerator);

@@ -1,8 +1,6 @@
 -- Lemmas: shared.
 pub mod EffectLaws
 pub mod Lists
-pub mod OtherWaves
-pub mod Outlines
 pub mod RunsOfOneValue
 pub mod SignalCounts
 pub mod SoundEffects

@@ -13,5 +13,4 @@ pub mod AppliedRecords
 pub mod EffectLaws
 pub mod Touched
 pub mod TouchedByEdit
-pub mod OtherWaves
 pub mod inside

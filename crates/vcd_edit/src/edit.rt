@@ -76,7 +76,7 @@ pub enum Rule {
 
 /// The operator of a rule with two operands, by the tables of IEEE 1364-2005, 5.1.10.
 #[derive(Clone, Copy)]
-pub(crate) enum Operator {
+pub enum Operator {
     /// `&`.
     And,
     /// `|`.
@@ -87,7 +87,7 @@ pub(crate) enum Operator {
 
 /// A rule taken apart: in plans and proofs, all rules with two operands are one case.
 #[derive(Clone, Copy)]
-pub(crate) enum Formula {
+pub enum Formula {
     /// `~` of a signal of one bit.
     Negation(usize),
     /// An operator on two signals of one bit.

@@ -9,8 +9,6 @@ ghost use Rattle.vcd_edit.specs.EffectLaws.{LastForceCounts, ShiftFillsGaps};
 ghost use Rattle.vcd_edit.specs.EffectLaws.{DerivedBesideFirstOperand, BitOfOneBit, RenameAndBack};
 ghost use Rattle.vcd_edit.specs.EffectLaws.{RemoveAndBack};
 ghost use Rattle.vcd_edit.specs.OperatorTables.{NotHasItsTable, OperatorsHaveTheirTables};
-ghost use Rattle.vcd_edit.specs.OtherWaves.{FaultIsOfOutline, EffectKeepsOutlines};
-ghost use Rattle.vcd_edit.specs.OtherWaves.{OthersKeepOutline, EffectWithOthers, OthersFitEffect};
 
 /// An edit with no fault keeps a sound capture sound.
 pub fn effect_is_sound()
@@ -92,20 +90,4 @@ pub fn rename_and_back()
 /// where it was, gives the capture back.
 pub fn remove_and_back()
     ensures { RemoveAndBack }
-{}
-
-/// What an outline leaves out, the changes, decides neither whether an edit is refused nor what the
-/// outline is after it. So a script can be tried on names, widths and the end alone.
-pub fn outline_decides_faults()
-    ensures fault { FaultIsOfOutline }
-    ensures effect { EffectKeepsOutlines }
-{}
-
-/// A capture with other waves at some of its signals has the same outline. An edit that reads none
-/// of these waves makes the same of it, with what is left of them: only a cut changes any. So they
-/// need not be known.
-pub fn edits_leave_other_waves_alone()
-    ensures outline { OthersKeepOutline }
-    ensures effect { EffectWithOthers }
-    ensures fit { OthersFitEffect }
 {}

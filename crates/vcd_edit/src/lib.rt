@@ -14,19 +14,17 @@ mod laws;
 mod plans;
 mod record;
 mod reverting;
-#[cfg(test)]
-mod tests;
 
 pub use applying::apply;
 pub use checking::check;
-pub use edit::{Edit, Rule};
+pub use edit::{Edit, Formula, Rule};
 pub use exchange::Kept;
 pub use fault::EditError;
 pub use laws::{
     bit_of_one_bit, cut_keeps_other_ticks, cuts_commute, deglitch_takes_short_runs_out,
-    derived_beside_first_operand, edits_leave_other_waves_alone, effect_is_sound, force_is_local,
-    invert_twice, last_force_counts, operators_have_their_tables, outline_decides_faults,
-    remove_and_back, rename_and_back, shift_and_back, shift_fills_gaps,
+    derived_beside_first_operand, effect_is_sound, force_is_local, invert_twice, last_force_counts,
+    operators_have_their_tables, remove_and_back, rename_and_back, shift_and_back,
+    shift_fills_gaps,
 };
 pub use plans::inverse_of;
 pub use record::Record;

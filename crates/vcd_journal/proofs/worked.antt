@@ -1,4 +1,2 @@
 -- Lemmas: worked.
 pub mod History
-pub mod Origins
-pub mod Hollow

@@ -5,7 +5,4 @@ pub mod Machine
 pub mod HistoryMachine
 pub mod Laws
 pub mod ReachedCaptures
-pub mod Origins
-pub mod Cuts
-pub mod Hollow
 pub mod inside

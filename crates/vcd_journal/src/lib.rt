@@ -11,10 +11,7 @@ mod running;
 mod session;
 mod step;
 
-pub use laws::{
-    cuts_are_one, history_is_bounded, replays_on_hollow_captures, session_is_replay,
-    signals_keep_their_places, steps_are_of_outline,
-};
+pub use laws::{history_is_bounded, session_is_replay};
 pub use running::run;
 pub use session::Session;
 pub use step::{Answer, DEPTH_LIMIT, Step, StepError};

@@ -7,9 +7,6 @@ ghost use Rattle.vcd_journal.specs.Machine.{initial_machine, IsStepCall};
 ghost use Rattle.vcd_journal.specs.History as spec;
 ghost use Rattle.vcd_journal.specs.declared.step.Step.TheVariants as steps;
 
-#[cfg(test)]
-mod tests;
-
 use crate::rings::{Ring, apply_newest, drop_older, empty_rings, enlarge, push_newest};
 use crate::step::{DEPTH_LIMIT, Step, StepError};
 use std::alloc::Global;

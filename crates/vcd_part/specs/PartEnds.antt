@@ -5,8 +5,8 @@ use Rattle.vcd_core.specs.Devices.{DeviceEnd, HasText, IsRead}
 use Rattle.vcd_text.specs.Grammar.{initial_state, AllowsAll, word_texts}
 use Rattle.vcd_text.specs.Items.{spellings}
 use Rattle.vcd_text.specs.Words.{words_of}
-use Rattle.vcd_text.specs.Pieces.{Piece, IsCut, state_of_pieces}
-use Rattle.vcd_text.specs.CopyEnds.{CopyFails}
+use Rattle.vcd_copy.specs.Pieces.{Piece, IsCut, state_of_pieces}
+use Rattle.vcd_copy.specs.CopyEnds.{CopyFails}
 use Rattle.vcd_text.specs.declared.reading.TheConstants.{LONG_FILE_LIMIT, VARIABLE_LIMIT}
 use Rattle.vcd_text.specs.declared.reading.choice.TickRange.{TickRange}
 use Rattle.vcd_part.specs.declared.part.PartError.{PartError}
@@ -16,7 +16,7 @@ use Rattle.vcd_part.specs.declared.request.Refusal.{Refusal}
 use Rattle.vcd_part.specs.declared.request.Request.{Request}
 use Rattle.vcd_part.specs.Requests.{decide, unmet}
 use Rattle.vcd_part.specs.PartPieces.{part_pieces}
-use Rattle.vcd_text.specs.Pieces.{piece_bytes}
+use Rattle.vcd_copy.specs.Pieces.{piece_bytes}
 use Rattle.vcd_part.specs.PartLaws.{HasPart}
 use Rattle.vcd_part.specs.WrittenPart.{written_part}
 

@@ -6,12 +6,12 @@ use Rattle.vcd_core.specs.declared.capture.HeaderKind.TheVariants.{Comment}
 use Rattle.vcd_text.specs.Grammar.{initial_state, AllowsAll, is_skipped}
 use Rattle.vcd_text.specs.Meaning.{FileMeans, meaning}
 use Rattle.vcd_text.specs.Parts.{part_of}
-use Rattle.vcd_text.specs.Pieces.{Piece, IsCut, state_of_pieces}
+use Rattle.vcd_copy.specs.Pieces.{Piece, IsCut, state_of_pieces}
 use Rattle.vcd_text.specs.declared.reading.choice.TickRange.{TickRange}
 use Rattle.vcd_part.specs.declared.request.Request.{Request}
 use Rattle.vcd_part.specs.Requests.{keeps_name, keeps, decide}
 use Rattle.vcd_part.specs.PartPieces.{part_pieces, comment_words}
-use Rattle.vcd_text.specs.Pieces.{piece_bytes}
+use Rattle.vcd_copy.specs.Pieces.{piece_bytes}
 use Rattle.vcd_part.specs.PartPieces.{kept_count, all_count}
 
 -- an accepted file of these pieces, of which the request asks for this window, whose first tick it

@@ -12,8 +12,8 @@ use Rattle.vcd_core.specs.declared.capture.TheConstants.{END_LIMIT}
 use Rattle.vcd_text.specs.Items.{Item, entry, variable, stamp, scalar, vector}
 use Rattle.vcd_text.specs.Items.{real_or_string, spelling}
 use Rattle.vcd_text.specs.Grammar.{ParseState, VariableDeclaration, declaration_of, is_skipped}
-use Rattle.vcd_text.specs.Pieces.{Piece, stamp_line, state_of_pieces}
-use Rattle.vcd_text.specs.Copied.{may_be_amended}
+use Rattle.vcd_copy.specs.Pieces.{Piece, stamp_line, state_of_pieces}
+use Rattle.vcd_copy.specs.Copied.{may_be_amended}
 use Rattle.vcd_text.specs.declared.reading.choice.TickRange.{TickRange}
 use Rattle.vcd_part.specs.declared.request.Refusal.{Refusal}
 use Rattle.vcd_part.specs.declared.request.Request.{Request}

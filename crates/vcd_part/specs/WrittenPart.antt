@@ -7,9 +7,9 @@ use Rattle.vcd_core.specs.Word.{is_one_of}
 use Rattle.vcd_core.specs.declared.capture.ScopeName.{ScopeName}
 use Rattle.vcd_core.specs.declared.capture.TheConstants.{END_LIMIT}
 use Rattle.vcd_text.specs.AsDeclared.{declared_name}
-use Rattle.vcd_text.specs.Copied.{is_comment_or_other}
+use Rattle.vcd_copy.specs.Copied.{is_comment_or_other}
 use Rattle.vcd_text.specs.Grammar.{ParseState, VariableDeclaration}
-use Rattle.vcd_text.specs.Pieces.{Piece}
+use Rattle.vcd_copy.specs.Pieces.{Piece}
 use Rattle.vcd_text.specs.declared.reading.choice.TickRange.{TickRange}
 use Rattle.vcd_part.specs.declared.written_part.WrittenPart.{WrittenPart}
 use Rattle.vcd_part.specs.declared.named_variable.NamedVariable.{NamedVariable}

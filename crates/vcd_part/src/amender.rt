@@ -2,7 +2,7 @@
 
 ghost use Rattle.std.specs.Prelude.{◌≡◌, [], List, IfOk, option_map, is_some};
 ghost use Rattle.vcd_text.specs.EmittedText.{Emits};
-ghost use Rattle.vcd_text.specs.Pieces.{Piece, state_of_pieces};
+ghost use Rattle.vcd_copy.specs.Pieces.{Piece, state_of_pieces};
 ghost use Rattle.vcd_part.specs.declared.request.Request.{Request};
 ghost use Rattle.vcd_part.specs.Requests.{unmet};
 ghost use Rattle.vcd_part.specs.inside.PartAmender as spec;
@@ -17,8 +17,9 @@ use crate::code_uses::CodeUses;
 use crate::request::{Refusal, Request};
 use crate::window::is_up_to_first;
 use std::alloc::Global;
+use vcd_copy::{AmendableItem, Amender, InPlace};
 use vcd_core::{NoMemory, ScopeName, Sink};
-use vcd_text::{AmendableItem, Amender, InPlace, Output, TickRange, write_bytes};
+use vcd_text::{Output, TickRange, write_bytes};
 
 /// A request, and how far the file is.
 #[derive(Drop)]

@@ -3,13 +3,13 @@
 ghost use Rattle.std.specs.Prelude.{◌≡◌, ◌<◌, ◌++◌, ◌∷◌, [], List, OnOk, bytes_eq, codes};
 ghost use Rattle.vcd_core.specs.Decimal.{is_number, number_of};
 ghost use Rattle.vcd_text.specs.Grammar.{VariableDeclaration};
-ghost use Rattle.vcd_text.specs.Pieces.{Piece};
+ghost use Rattle.vcd_copy.specs.Pieces.{Piece};
 ghost use Rattle.std.specs.Prelude.{length, IfOk, if◌then◌else◌, is_some, not, ◌||◌, ◌&&◌, Some};
 ghost use Rattle.std.specs.Prelude.{true, false};
 ghost use Rattle.vcd_text.specs.EmittedText.{Emits, EmitsMore};
 ghost use Rattle.vcd_core.specs.Word.{is_one_of};
 ghost use Rattle.vcd_part.specs.PartPieces.{first_pieces, lasting_codes};
-ghost use Rattle.vcd_text.specs.Pieces.{piece_bytes};
+ghost use Rattle.vcd_copy.specs.Pieces.{piece_bytes};
 ghost use Rattle.vcd_part.specs.declared.request.Request.{Request};
 ghost use Rattle.vcd_part.specs.Requests.{keeps};
 ghost use Rattle.vcd_part.specs.inside.FirstValues.{bodies};
@@ -17,8 +17,9 @@ ghost use Rattle.vcd_part.specs.inside.CodeUses.{AreUses, HoldLast, IsChangeItem
 
 use crate::first_values::FirstValues;
 use std::alloc::Global;
+use vcd_copy::VariableWords;
 use vcd_core::{NoMemory, Sink};
-use vcd_text::{CodeTargets, Output, VariableWords, write_bytes};
+use vcd_text::{CodeTargets, Output, write_bytes};
 
 /// What a code means in the part, of the variables so far.
 #[derive(Clone, Copy, Debug, PartialEq, Eq)]

@@ -3,8 +3,8 @@
 ghost use Rattle.std.specs.Prelude.{◌≡◌, ◌≤◌, ◌<◌, ℕ, List, true, false, OnOk, IfOk, IfErr, IfSome};
 ghost use Rattle.std.specs.Prelude.{is_some, length, Some, option_map, None};
 ghost use Rattle.std.specs.Io.KnownBytes.{Appends, IsAtEnd};
-ghost use Rattle.vcd_text.specs.Copied.{IsCopy, IsTold};
-ghost use Rattle.vcd_text.specs.CopyEnds.{CopyFails};
+ghost use Rattle.vcd_copy.specs.Copied.{IsCopy, IsTold};
+ghost use Rattle.vcd_copy.specs.CopyEnds.{CopyFails};
 ghost use Rattle.vcd_text.specs.declared.reading.TheConstants.{LONG_FILE_LIMIT};
 ghost use Rattle.vcd_part.specs.inside.PartCopy.{part_rules};
 ghost use Rattle.vcd_part.specs.inside.PartAmender.{HasSeen, OutcomeOf};
@@ -16,8 +16,9 @@ use crate::amender::PartAmender;
 use crate::request::{Refusal, Request};
 use crate::written_part::{WrittenPart, written_part};
 use std::alloc::Global;
+use vcd_copy::{CopyError, copy};
 use vcd_core::{Sink, Source};
-use vcd_text::{CopyError, VARIABLE_LIMIT, copy};
+use vcd_text::VARIABLE_LIMIT;
 
 /// Why the part of a file was not written.
 #[derive(Clone, Copy, Debug, PartialEq, Eq)]

@@ -1,7 +1,7 @@
 //! The window of a part, and the stamps in it.
 
 ghost use Rattle.std.specs.Prelude.{◌≡◌, ◌<◌, ◌^◌, ◌++◌, ◌∷◌, [], List, true, OnOk, decimal};
-ghost use Rattle.vcd_text.specs.Pieces.{Piece, piece_bytes};
+ghost use Rattle.vcd_copy.specs.Pieces.{Piece, piece_bytes};
 ghost use Rattle.vcd_part.specs.PartPieces as spec;
 ghost use Rattle.vcd_part.specs.inside.PartCopy.{waiting_after};
 

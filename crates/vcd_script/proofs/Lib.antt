@@ -1,2 +1,1 @@
-pub mod worked
 pub mod shared

@@ -1,3 +1,2 @@
 -- Lemmas of `replies`.
-pub mod AnsweredLines
 pub mod PrintedSignals

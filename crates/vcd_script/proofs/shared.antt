@@ -1,8 +1,6 @@
 -- Lemmas: shared.
 pub mod LinesAndHistory
 pub mod LawsOfRun
-pub mod HollowRuns
-pub mod FittingCuts
-pub mod HollowPart
-pub mod SessionRemarks
-pub mod RemarksOnHollow
+pub mod AnsweredLines
+pub mod LinesLeft
+pub mod PartsOfRun

@@ -1,6 +1,5 @@
 -- Intermediate definitions, cited only by proofs and by contracts of private functions. A reader
 -- need not believe them.
-pub mod remarks
 pub mod replies
 pub mod running
 pub mod script

@@ -17,21 +17,15 @@
 #![tactic(auto)]
 
 mod laws;
-mod remarks;
 mod replies;
 mod running;
 mod script;
 
-pub use laws::{
-    cut_file_is_read_again, hollow_captures_are_parts, lines_are_of_outline, remarks_are_true,
-    remarks_on_hollow_captures, runs_on_hollow_captures, same_bytes_same_result,
-    session_lines_are_run, session_remarks_are_run,
-};
-pub use remarks::{append_more, append_name, remarks_on};
-pub use replies::{Reply, answer_line};
-pub use running::remark_on_lines::{RemarkError, remark_on_lines};
+pub use laws::{cut_file_is_read_again, same_bytes_same_result, session_lines_are_run};
+pub use replies::appending::{append_bytes, append_decimal, append_number};
+pub use replies::{MemoryResult, Reply, answer_line, is_no_memory, scalar_wave, wave_or_absent};
 pub use running::run::run;
 pub use running::run_lines::run_lines;
 pub use running::run_on_bytes::{RunRefusal, RunTexts, Stage, run_on_bytes};
 pub use running::{RunError, SCRIPT_LIMIT, Summary, read_script};
-pub use script::{Command, LineError, parse_line, split_line, waves_of_command};
+pub use script::{Command, Keyword, LineError, parse_line, split_line};

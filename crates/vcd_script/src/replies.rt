@@ -8,11 +8,10 @@ mod listing;
 mod reply;
 mod waves;
 
-pub use answering::answer_line;
-pub(crate) use answering::is_no_memory;
-pub(crate) use decoding::{scalar_wave, wave_or_absent};
+pub use answering::{answer_line, is_no_memory};
+pub use decoding::{scalar_wave, wave_or_absent};
 pub use reply::Reply;
 use vcd_core::NoMemory;
 
 /// The value, or that memory ran out.
-pub(crate) type MemoryResult<T> = Result<T, NoMemory>;
+pub type MemoryResult<T> = Result<T, NoMemory>;

@@ -1,7 +1,6 @@
 //! The run of a script on a capture, from its devices to its end.
 
 // a library may have no item beside a module of its name: so `lib.rt` names what is in these three
-pub mod remark_on_lines;
 pub mod run;
 mod run_error;
 pub mod run_lines;

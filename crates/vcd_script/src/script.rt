@@ -1,7 +1,6 @@
 //! A script: its lines, and what each of them asks for.
 
 mod command;
-mod command_waves;
 mod decoder_words;
 mod decoders;
 mod derivations;
@@ -15,8 +14,7 @@ mod queries;
 mod splitting;
 
 pub use command::Command;
-pub(crate) use command_waves::signals_of_command;
-pub use command_waves::waves_of_command;
+pub use keyword::Keyword;
 pub use line::parse_line;
 pub use line_error::LineError;
 pub use splitting::split_line;

@@ -1,7 +1,6 @@
 -- The definitions of what the programs share.
 pub mod Opening
 pub mod Options
-pub mod SafeFile
 pub mod Report
 pub mod WithoutRun
 pub mod Endings

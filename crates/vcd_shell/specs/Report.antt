@@ -10,8 +10,6 @@ use Rattle.vcd_text.specs.declared.fault.WriteError.{WriteError}
 use Rattle.vcd_text.specs.declared.fault.WriteError.TheVariants as write_errors
 use Rattle.vcd_script.specs.declared.running.run_error.RunError.{RunError}
 use Rattle.vcd_script.specs.declared.running.run_error.RunError.TheVariants as run_errors
-use Rattle.vcd_shell.specs.declared.safe_file.OutputFault.{OutputFault}
-use Rattle.vcd_shell.specs.declared.safe_file.OutputFault.TheVariants as output_faults
 
 -- ---- statuses
 
@@ -25,11 +23,6 @@ capture_status _ = 3
 abbrev pub write_status : WriteError → ℕ
 write_status write_errors.NoMemory = 5
 write_status (write_errors.WriteFault written) = 4
-
--- the exit status for a file of the output
-abbrev pub output_status : OutputFault → ℕ
-output_status output_faults.NoMemory = 5
-output_status _ = 4
 
 -- the exit status of a completed run: 1 if lines of the script were refused
 abbrev pub done_status : ℕ → ℕ
@@ -70,18 +63,6 @@ abbrev pub write_report : (program : List ℕ) → WriteError → List ℕ
 write_report program write_errors.NoMemory = out_of_memory_report program
 write_report program (write_errors.WriteFault written) =
     report_of program (codes "output: write fault")
-
--- what the line says for a file of the output
-abbrev pub output_text : OutputFault → List ℕ
-output_text output_faults.Protected = codes "OutputProtected: the output is write-protected"
-output_text output_faults.InUse =
-    codes "OutputInUse: another run writes the output; if none does, remove .NAME.vcdedit"
-output_text output_faults.Failed = codes "output: write fault"
-output_text output_faults.NoMemory = codes "out of memory"
-
--- the line for a file of the output
-abbrev pub output_report : (program : List ℕ) → OutputFault → List ℕ
-output_report program fault = report_of program (output_text fault)
 
 -- the line for a run that failed
 abbrev pub run_error_report : (program : List ℕ) → RunError → List ℕ

@@ -4,7 +4,6 @@ ghost use Rattle.std.specs.Prelude.{◌≡◌, [], None, Some, IsSome, IsOk, OnO
 ghost use Rattle.std.specs.Io.{WritesAtMost};
 ghost use Rattle.std.specs.Io.KnownBytes.{WriteAppends};
 
-use std::fs::OpenFile;
 use std::io::Write;
 use std::rt::Files;
 use std::{fs, io};
@@ -29,26 +28,6 @@ impl<'a, R: Files> LateFile<'a, R> {
             files,
             path,
             file: None,
-        }
-    }
-
-    /// A writer to this open file.
-    pub fn over(files: &'a R, path: &'a str, file: R::File) -> LateFile<'a, R>
-        ensures open { result.file ≡ Some file }
-        ensures path { result.path.now ≡ path.now }
-    {
-        LateFile {
-            files,
-            path,
-            file: Some(file),
-        }
-    }
-
-    /// Writes what the file has taken to the disk.
-    pub fn sync(&self) -> io::Result<()> {
-        match &self.file {
-            Some(file) => file.sync_all(),
-            None => Ok(()),
         }
     }
 

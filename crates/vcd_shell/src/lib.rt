@@ -1,5 +1,5 @@
 //! What the programs share around their work: from the words of a command line to an exit status,
-//! the input, the file of the output, and reports of faults.
+//! the input, and reports of faults.
 #![tactic(auto)]
 
 mod late_file;
@@ -7,7 +7,6 @@ mod opening;
 mod options;
 mod program;
 mod reporting;
-mod safe_file;
 mod words;
 
 pub use late_file::LateFile;
@@ -18,8 +17,7 @@ pub use options::{
 };
 pub use program::{Program, status_of_program};
 pub use reporting::{
-    capture_status, done_status, output_status, report, report_capture, report_no_memory,
-    report_output, report_run_error, report_with, report_write, run_error_status, write_status,
+    capture_status, done_status, report, report_capture, report_no_memory, report_run_error,
+    report_with, report_write, run_error_status, write_status,
 };
-pub use safe_file::{OutputFault, SafeFile};
 pub use words::WithoutRun;

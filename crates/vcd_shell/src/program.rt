@@ -15,6 +15,7 @@ use crate::words::{WithoutRun, answer_bad_words, answer_error, words_after_name}
 use clap::{ArgMatches, Command, Error};
 use std::alloc::{AllocError, Global};
 use std::env::Args;
+use std::fs::File;
 use std::io;
 use std::rt::Runtime;
 use vcd_core::Sink;
@@ -58,7 +59,10 @@ pub trait Program {
         ensures { IfOk result (λ c. app_of c ≡ options) };
 
     /// Does what accepted words ask for.
-    fn carry_out<R: Runtime + AllocGlobal>(rt: &R, matches: &ArgMatches<'_>) -> Self::Outcome
+    fn carry_out<R: Runtime<File = File> + AllocGlobal>(
+        rt: &R,
+        matches: &ArgMatches<'_>,
+    ) -> Self::Outcome
         ensures { (words : List Text) → rows_of (found_of matches.now) ≡ matches_of options words →
             can_end words result };
 
@@ -78,7 +82,7 @@ pub trait Program {
 /// run goes to `errors`.
 ///
 /// The words are the result of `std::env::args`: the first is the program's name.
-pub fn status_of_program<P: Program, R: Runtime + AllocGlobal, E: Sink>(
+pub fn status_of_program<P: Program, R: Runtime<File = File> + AllocGlobal, E: Sink>(
     rt: &R,
     words: io::Result<Args>,
     errors: &mut E,
@@ -118,7 +122,7 @@ fn report_ending<P: Program, E: Sink>(ending: Result<P::Outcome, WithoutRun>, er
 }
 
 /// Does what the words after the program's name ask for. If they ask for no run, nothing is begun.
-fn ending_of_words<P: Program, R: Runtime + AllocGlobal>(
+fn ending_of_words<P: Program, R: Runtime<File = File> + AllocGlobal>(
     rt: &R,
     words: Args,
 ) -> Result<P::Outcome, WithoutRun>

@@ -4,12 +4,10 @@ ghost use Rattle.std.specs.Prelude.{◌≡◌, ◌≤◌, ◌++◌, false, true,
 ghost use Rattle.std.specs.Io.KnownBytes.{Appends};
 ghost use Rattle.vcd_shell.specs.Report.{IsReported, IsTold, capture_line_report, capture_report};
 ghost use Rattle.vcd_shell.specs.Report.{capture_status, done_status, out_of_memory_report};
-ghost use Rattle.vcd_shell.specs.Report.{output_report, output_status, output_text, report_of};
-ghost use Rattle.vcd_shell.specs.Report.{run_error_report, run_error_status};
+ghost use Rattle.vcd_shell.specs.Report.{report_of, run_error_report, run_error_status};
 ghost use Rattle.vcd_shell.specs.Report.{write_report, write_status};
 ghost use Rattle.vcd_shell.specs.WithoutRun.{without_run_status, without_run_text};
 
-use crate::safe_file::OutputFault;
 use crate::words::WithoutRun;
 use itoa::Buffer;
 use vcd_core::{ShortWrite, Sink, write_all, write_and_flush};
@@ -59,28 +57,6 @@ pub fn report_write<W: Sink>(program: &[u8], error: &WriteError, writer: &mut W)
     match error {
         WriteError::NoMemory => report_no_memory(program, writer),
         WriteError::WriteFault { .. } => report(program, b"output: write fault", writer),
-    }
-}
-
-/// Writes the line for a file of the output after the program's name, and flushes the writer. A
-/// fault of the writer is ignored. It takes no memory.
-pub fn report_output<W: Sink>(program: &[u8], fault: OutputFault, writer: &mut W)
-    ensures { IsReported (W.has_failed writer.new) (W.is_flushed writer.new)
-        (W.taken writer.old) (W.taken writer.new) (output_report program.now fault) }
-{
-    report(program, output_text(fault).as_bytes(), writer);
-}
-
-/// What the line says for a file of the output.
-fn output_text(fault: OutputFault) -> &'static str
-    ensures { result.now ≡ output_text fault }
-{
-    match fault {
-        OutputFault::Protected => "OutputProtected: the output is write-protected",
-        OutputFault::InUse =>
-            "OutputInUse: another run writes the output; if none does, remove .NAME.vcdedit",
-        OutputFault::Failed => "output: write fault",
-        OutputFault::NoMemory => "out of memory",
     }
 }
 
@@ -172,17 +148,6 @@ pub fn write_status(error: &WriteError) -> u8
     match error {
         WriteError::NoMemory => 5,
         WriteError::WriteFault { .. } => 4,
-    }
-}
-
-/// The exit status for a file of the output: 4, or 5 if memory ran out.
-pub fn output_status(fault: OutputFault) -> u8
-    ensures most { result ≤ 5 }
-    ensures status { result ≡ output_status fault }
-{
-    match fault {
-        OutputFault::NoMemory => 5,
-        _ => 4,
     }
 }
 

@@ -9,11 +9,11 @@ use crate::fixtures::{check_holds, file_of, wave_of};
 use std::alloc::Global;
 use std::process::Abort;
 use std::test::Fail;
-use vcd_amend::{
-    AddedVariable, AmendedCode, Amendment, Fate, HearError, amend, read_heard, read_outline,
-};
+use vcd_amend::{AddedVariable, AmendedCode, Amendment, Fate, amend};
+use vcd_amend_run::{HearError, read_heard, read_outline};
+use vcd_copy::CopyError;
 use vcd_core::{ScopePath, Seq, Word, copy_word};
-use vcd_text::{CopyError, VARIABLE_LIMIT, WriteError};
+use vcd_text::{VARIABLE_LIMIT, WriteError};
 
 /// A file with two variables of one code, and white space of all kinds.
 const FILE: &str = "$comment of a tool $end

@@ -3,7 +3,7 @@
 
 ghost use Rattle.std.specs.Prelude.{◌≡◌, ◌++◌, [], false, codes, bytes_eq, if◌then◌else◌};
 ghost use Rattle.std.specs.Option.{unwrap_or};
-ghost use Rattle.vcd_text.specs.Copied.{Shows, value_code};
+ghost use Rattle.vcd_copy.specs.Copied.{Shows, value_code};
 ghost use Rattle.vcd_text.specs.EmittedText.{Emits};
 ghost use Rattle.vcd_text.specs.Grammar.{ParseState};
 ghost use Rattle.vcd_text.specs.Items.{Item};
@@ -13,11 +13,9 @@ use crate::fixtures::{check_holds, file_of};
 use std::alloc::Global;
 use std::process::Abort;
 use std::test::Fail;
+use vcd_copy::{AmendableItem, Amender, CopyError, InPlace, copy};
 use vcd_core::{NoMemory, ScopeName, Sink};
-use vcd_text::{
-    AmendableItem, Amender, CopyError, InPlace, Output, VARIABLE_LIMIT, WriteError, copy,
-    write_bytes,
-};
+use vcd_text::{Output, VARIABLE_LIMIT, WriteError, write_bytes};
 
 /// A file with white space of all kinds, and items of several words.
 const FILE: &str = "$comment one two $end\t$timescale 1 ns $end

@@ -2,6 +2,7 @@
 
 use crate::fixtures::{capture_text, load_file, wave_of};
 use std::test::Fail;
+use vcd_amend_run::amend_on_bytes;
 use vcd_core::{Bit, FromRead, ToWrite, Value, Wave, ends_by};
 use vcd_decode::{Kind, Parity, Uart, uart};
 use vcd_edit::{Edit, apply, revert};
@@ -64,5 +65,19 @@ fn a_decoder(rt: HostRuntime) -> Result<(), Fail> {
     assert!(rt; frames.len() == 1);
     assert!(rt; (frames[0].start, frames[0].end) == (10, 23));
     assert!(rt; frames[0].kind == Kind::Byte(0b10101));
+    Ok(())
+}
+
+#[test]
+fn an_amended_file(rt: HostRuntime) -> Result<(), Fail> {
+    let capture = b"$var real 64 % volt $end $var wire 1 ! rx $end $enddefinitions $end
+#0 1! r2.5 % #20 0! #22 1! r3.25 % #90";
+    let Ok(texts) = amend_on_bytes(rt.alloc(), capture, b"deglitch rx 3\nvalue rx 21\n", 100) else {
+        return Err(Fail::from("the run did not reach its end"));
+    };
+    let amended = b"$var real 64 % volt $end $var wire 1 ! rx $end $enddefinitions $end
+#0 1! r2.5 % #20 #22 r3.25 % #90";
+    assert!(rt; texts.replies.as_slice() == b"ok\n1\n".as_slice());
+    assert!(rt; texts.output.as_slice() == amended.as_slice());
     Ok(())
 }

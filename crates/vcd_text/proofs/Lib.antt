@@ -1,5 +1,3 @@
 pub mod part
 pub mod shared
 pub mod read_back
-pub mod pieces
-pub mod marks

@@ -17,6 +17,6 @@ pub mod EmittedParts
 pub mod TransitionOrder
 pub mod CodesDiffer
 pub mod ScopePaths
-pub mod StatesOfPieces
 pub mod DeclaringWords
-pub mod SpelledItems
+pub mod NoWordLeft
+pub mod Chunks

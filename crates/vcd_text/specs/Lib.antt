@@ -18,11 +18,4 @@ pub mod MemoryErrors
 pub mod Refusals
 pub mod Parts
 pub mod PartLaws
-pub mod Pieces
-pub mod CutLaws
-pub mod Copied
-pub mod VariableWords
-pub mod CopyEnds
-pub mod Marks
-pub mod MarkText
 pub mod inside

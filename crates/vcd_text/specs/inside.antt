@@ -2,6 +2,5 @@
 -- them.
 pub mod reading
 pub mod Words
-pub mod Copying
 pub mod shared
 pub mod writing

@@ -6,7 +6,6 @@ ghost use Rattle.vcd_text.specs.MemoryErrors.{memory_error};
 ghost use Rattle.vcd_text.specs.inside.reading.Parser.{error_at};
 ghost use Rattle.vcd_text.specs.declared.fault.Fault.TheVariants.{NoMemory};
 ghost use Rattle.vcd_text.specs.declared.fault.WriteError.TheVariants as write_errors;
-ghost use Rattle.vcd_text.specs.declared.fault.CopyError.TheVariants as copy_errors;
 
 use std::alloc::{AllocError, AllocFailed};
 use thiserror::Error;
@@ -117,7 +116,7 @@ pub struct ReadError {
 
 impl ReadError {
     /// A fault at this line. `NoMemory` has line 0.
-    pub(crate) fn at(line: u64, fault: Fault) -> ReadError
+    pub fn at(line: u64, fault: Fault) -> ReadError
         ensures { result ≡ error_at line fault }
     {
         let line = if fault == Fault::NoMemory { 0 } else { line };
@@ -167,22 +166,5 @@ impl From<vcd_core::NoMemory> for WriteError {
 
     fn from(_error: vcd_core::NoMemory) -> WriteError {
         WriteError::NoMemory
-    }
-}
-
-/// Why a file was not copied.
-#[derive(Clone, Copy, Debug, PartialEq, Eq)]
-pub enum CopyError {
-    /// The file could not be read.
-    Read(ReadError),
-    /// The copy could not be written.
-    Write(WriteError),
-}
-
-impl From<vcd_core::NoMemory> for CopyError {
-    ghost from_gives = { λ _ e. e ≡ copy_errors.Write write_errors.NoMemory };
-
-    fn from(_error: vcd_core::NoMemory) -> CopyError {
-        CopyError::Write(WriteError::NoMemory)
     }
 }

@@ -6,9 +6,6 @@ ghost use Rattle.vcd_text.specs.Laws.{EveryFaultIsFound};
 ghost use Rattle.vcd_text.specs.Laws.{EveryPrefixHasAtMostOneFault, PrefixFaultIsFileFault};
 ghost use Rattle.vcd_text.specs.Laws.{TextIsReadBack, NothingElseIsReadBack, TextHasNoFault};
 ghost use Rattle.vcd_text.specs.PartLaws.{PartOfPartIsPart, AllIsPart};
-ghost use Rattle.vcd_text.specs.CutLaws.{EveryFileIsCut, CutIsUnique};
-ghost use Rattle.vcd_text.specs.Marks.{MarkedFileMeansSame, CopyWithMarkIsCopyOfMarked};
-ghost use Rattle.vcd_text.specs.MarkText.{EveryMarkIsComment};
 
 /// A file has at most one result. It has no two meanings, no two faults, no two lines of one fault,
 /// and never both a meaning and a fault.
@@ -55,18 +52,4 @@ pub fn nothing_else_is_read_back()
 pub fn parts_agree()
     ensures part_of_part { PartOfPartIsPart }
     ensures all { AllIsPart }
-{}
-
-/// Every file whose words spell items is cut into the pieces of these items, and in one way.
-pub fn file_is_cut()
-    ensures cut { EveryFileIsCut }
-    ensures one { CutIsUnique }
-{}
-
-/// A file with a mark means what it means without; every mark is a comment. A copy with a mark is
-/// the copy of the file with the mark.
-pub fn mark_changes_no_meaning()
-    ensures comment { EveryMarkIsComment }
-    ensures same { MarkedFileMeansSame }
-    ensures copy { CopyWithMarkIsCopyOfMarked }
 {}

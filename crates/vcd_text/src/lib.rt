@@ -2,35 +2,34 @@
 //!
 //! `read` gives the capture that a file means, or the file's one fault with its line. `read_part`
 //! gives a part of it. `write` writes the text of a capture, which reads back as the same capture.
-//! `Words` are the words of a text, each with its line, and `VariableWords` those of a `$var`.
-//! `copy` copies a file as it is read, with what an amender writes in the place of some items.
+//! `Words` are the words of a text, each with its line. `FileReader` and `Parser` take a file in
+//! chunks, for those who make something else of its words.
 //!
 //! The format is defined in `specs/`: `Words`, `Letters`, `Items`, `Grammar`, `Meaning`, `Faults`,
 //! `Parts` and `Text`.
 #![tactic(auto)]
 
-mod copying;
 mod fault;
 mod laws;
-mod marking;
 mod reading;
 mod words;
 mod writing;
 
-pub use copying::{AmendableItem, Amender, InPlace, VariableWords, copy};
-pub use fault::{CopyError, Fault, ReadError, WriteError};
+pub use fault::{Fault, ReadError, WriteError};
 pub use laws::{
-    file_is_cut, has_an_answer, has_one_answer, mark_changes_no_meaning, nothing_else_is_read_back,
-    parts_agree, prefix_fault_stays, prefix_has_one_fault, text_is_read_back,
+    has_an_answer, has_one_answer, nothing_else_is_read_back, parts_agree, prefix_fault_stays,
+    prefix_has_one_fault, text_is_read_back,
 };
-pub use marking::{Mark, MarkHead, Marked};
+pub use reading::choice::Unheard;
+pub use reading::file_reader::{FileReader, check_complete, complete_words_len, take_word};
+pub use reading::parser::{OpenItem, Parser};
 pub use reading::{
     Choice, CodeTargets, DeclaredSignal, FILE_LIMIT, LONG_FILE_LIMIT, Loaded, TickRange,
     VARIABLE_LIMIT, read, read_part, value_of_digits,
 };
 pub use words::{WordOnLine, Words};
 pub use writing::declarations::are_same_words;
-pub use writing::output::{Output, write_byte, write_bytes};
+pub use writing::output::{Output, empty_buffer, flush, send_buffer, write_byte, write_bytes};
 pub use writing::{
     write, write_change, write_declaration, write_scopes, write_stamp, write_upscopes,
 };

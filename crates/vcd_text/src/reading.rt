@@ -17,7 +17,7 @@ mod binary_number;
 mod changes;
 pub(crate) mod choice;
 mod code_targets;
-mod declarations;
+pub(crate) mod declarations;
 mod declared_signals;
 mod digit_blocks;
 mod digits;

@@ -10,6 +10,7 @@ use crate::command_line::{Options, command_line, options_of};
 use crate::reporting::{PROGRAM, report};
 use clap::{ArgMatches, Command};
 use std::alloc::{AllocError, Global};
+use std::fs::File;
 use std::io;
 use std::io::BufWriter;
 use std::rt::Runtime;
@@ -67,7 +68,7 @@ impl Program for Vcdedit {
         command_line(alloc)
     }
 
-    fn carry_out<R: Runtime + AllocGlobal>(
+    fn carry_out<R: Runtime<File = File> + AllocGlobal>(
         rt: &R,
         matches: &ArgMatches<'_>,
     ) -> Result<Summary, RunError> {

@@ -7,6 +7,5 @@ mod failures;
 mod lines;
 mod messages;
 mod notation;
-mod remarks;
 mod sessions;
 mod worked;

@@ -7,3 +7,4 @@ pub mod PartOutcome
 pub mod PartRemarks
 pub mod OptionsEnd
 pub mod Marks
+pub mod inside

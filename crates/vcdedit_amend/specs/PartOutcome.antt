@@ -4,10 +4,10 @@ use Rattle.std.specs.Prelude.{◌≡◌, ◌⊎◌, ℕ, ◌^◌, ◌-◌, true,
 use Rattle.std.specs.Prelude.{IsSome}
 use Rattle.clap.specs.Words.{Text}
 use Rattle.vcd_core.specs.Devices.{DeviceEnd}
-use Rattle.vcd_text.specs.declared.fault.CopyError.TheVariants as copy_errors
+use Rattle.vcd_copy.specs.declared.copying.copy_error.CopyError.TheVariants as copy_errors
 use Rattle.vcd_script.specs.declared.running.run_error.RunError.TheVariants as run_errors
 use Rattle.vcd_script.specs.declared.running.run_error.Summary.{Summary}
-use Rattle.vcd_amend.specs.declared.running.AmendRunError.TheVariants as amend_run_errors
+use Rattle.vcd_amend_run.specs.declared.running.AmendRunError.TheVariants as amend_run_errors
 use Rattle.vcd_part.specs.declared.part.PartError.{PartError}
 use Rattle.vcd_part.specs.declared.part.PartError.TheVariants as part_errors
 use Rattle.vcd_part.specs.declared.request.Request.{Request}

@@ -1,7 +1,7 @@
 -- What is said of a part beside its text: the project's own.
 use Rattle.std.specs.Prelude.{if◌then◌else◌, List, [], ◌∷◌, ◌++◌, map, codes, ℕ, nat_lt}
 use Rattle.std.specs.Fmt.{decimal}
-use Rattle.vcd_amend.specs.OutputRemarks.{names_remark, removed_remark}
+use Rattle.vcd_amend_run.specs.OutputRemarks.{names_remark, removed_remark}
 use Rattle.vcd_part.specs.declared.written_part.WrittenPart.{WrittenPart}
 
 -- a line that ends with a number, and a line feed (10)

@@ -8,15 +8,15 @@ use Rattle.vcd_core.specs.Devices.{DeviceEnd}
 use Rattle.vcd_text.specs.declared.fault.Fault.TheVariants as faults
 use Rattle.vcd_script.specs.declared.running.run_error.RunError.TheVariants as run_errors
 use Rattle.vcd_script.specs.declared.running.run_error.Summary.{Summary}
-use Rattle.vcd_amend.specs.AmendRunEnds.{PassEnds}
-use Rattle.vcd_amend.specs.MarkedRun.{MarkedRunEnds}
-use Rattle.vcd_text.specs.declared.marking.head.MarkHead.{MarkHead}
-use Rattle.vcd_amend.specs.TakenRemarks.{TakesRemarks}
-use Rattle.vcd_amend.specs.declared.running.AmendRunError.{AmendRunError}
-use Rattle.vcd_amend.specs.declared.running.AmendRunError.TheVariants as amend_run_errors
+use Rattle.vcd_amend_run.specs.AmendRunEnds.{PassEnds}
+use Rattle.vcd_amend_run.specs.MarkedRun.{MarkedRunEnds}
+use Rattle.vcd_copy.specs.declared.marking.head.MarkHead.{MarkHead}
+use Rattle.vcd_amend_run.specs.TakenRemarks.{TakesRemarks}
+use Rattle.vcd_amend_run.specs.declared.running.AmendRunError.{AmendRunError}
+use Rattle.vcd_amend_run.specs.declared.running.AmendRunError.TheVariants as amend_run_errors
 use Rattle.vcd_shell.specs.Opening.{default_script, names_file}
 use Rattle.vcd_shell.specs.Report.{done_status}
-use Rattle.vcd_shell.specs.declared.safe_file.OutputFault.{OutputFault}
+use Rattle.vcd_devices.specs.declared.safe_file.OutputFault.{OutputFault}
 use Rattle.vcdedit_amend.specs.declared.amend_error.AmendError.{AmendError}
 use Rattle.vcdedit_amend.specs.declared.amend_error.AmendError.TheVariants as errors
 use Rattle.vcdedit_amend.specs.CommandLine.{AskedOptions, ask_for_part}

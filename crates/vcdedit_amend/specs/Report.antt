@@ -1,12 +1,14 @@
 -- What the program reports of a file that was not amended. The statuses and lines are the project's
 -- own.
 use Rattle.std.specs.Prelude.{ℕ, List, codes, ◌++◌, decimal}
-use Rattle.vcd_amend.specs.declared.running.AmendRunError.{AmendRunError}
-use Rattle.vcd_amend.specs.declared.running.AmendRunError.TheVariants as run_errors
+use Rattle.vcd_amend_run.specs.declared.running.AmendRunError.{AmendRunError}
+use Rattle.vcd_amend_run.specs.declared.running.AmendRunError.TheVariants as run_errors
 use Rattle.vcd_part.specs.declared.request.Refusal.{Refusal}
 use Rattle.vcd_part.specs.declared.request.Refusal.TheVariants as refusals
-use Rattle.vcd_shell.specs.Report.{output_report, output_status, report_of, run_error_report}
+use Rattle.vcd_shell.specs.Report.{report_of, run_error_report}
 use Rattle.vcd_shell.specs.Report.{run_error_status}
+use Rattle.vcd_devices.specs.declared.safe_file.OutputFault.{OutputFault}
+use Rattle.vcd_devices.specs.declared.safe_file.OutputFault.TheVariants as output_faults
 use Rattle.vcdedit_amend.specs.declared.amend_error.PartFault.{PartFault}
 use Rattle.vcdedit_amend.specs.declared.amend_error.PartFault.TheVariants as faults
 use Rattle.vcdedit_amend.specs.declared.amend_error.AmendError.{AmendError}
@@ -26,6 +28,11 @@ part_status (faults.Refused refusal) = 1
 part_status (faults.PastEnd end) = 1
 part_status faults.NoFile = 4
 
+-- the exit status for a file of the output
+abbrev pub output_status : OutputFault → ℕ
+output_status output_faults.NoMemory = 5
+output_status _ = 4
+
 -- the exit status of a file that was not amended
 abbrev pub error_status : AmendError → ℕ
 error_status errors.TwoCaptures = 2
@@ -39,6 +46,22 @@ error_status (errors.Output fault) = output_status fault
 -- the line of a text, after the program's name
 abbrev pub own_report : List ℕ → List ℕ
 own_report = report_of (codes "vcdedit-amend")
+
+-- what the line says for a file of the output
+abbrev pub output_text : OutputFault → List ℕ
+output_text output_faults.Protected = codes "OutputProtected: the output is write-protected"
+output_text output_faults.IsInput =
+    codes "OutputIsInput: the output is the script, or a file that is read"
+output_text output_faults.InUse =
+    codes "OutputInUse: another run writes the output; if none does, remove .NAME.vcdedit"
+output_text output_faults.CaptureChanged =
+    codes "CaptureChanged: the capture was changed while it was read"
+output_text output_faults.Failed = codes "output: write fault"
+output_text output_faults.NoMemory = codes "out of memory"
+
+-- the line for a file of the output
+abbrev pub output_report : OutputFault → List ℕ
+output_report fault = own_report (output_text fault)
 
 -- the line on standard error of a run that was not completed
 abbrev pub run_text : AmendRunError → List ℕ
@@ -81,4 +104,4 @@ error_text errors.NothingToMark =
     own_report (codes "NothingToMark: --mark marks the output; name its file after -o")
 error_text (errors.Part fault) = part_text fault
 error_text (errors.Run e) = run_text e
-error_text (errors.Output fault) = output_report (codes "vcdedit-amend") fault
+error_text (errors.Output fault) = output_report fault

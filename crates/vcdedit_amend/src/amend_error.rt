@@ -4,14 +4,15 @@ ghost use Rattle.std.specs.Prelude.{◌≡◌};
 ghost use Rattle.vcdedit_amend.specs.PartOutcome.{part_error};
 ghost use Rattle.vcdedit_amend.specs.declared.amend_error.AmendError.TheVariants as amend_errors;
 
-use vcd_amend::AmendRunError;
+use vcd_amend_run::AmendRunError;
+use vcd_copy::CopyError;
+use vcd_devices::OutputFault;
 use vcd_part::{PartError, Refusal};
 use vcd_script::RunError;
-use vcd_shell::OutputFault;
-use vcd_text::{CopyError, Fault, ReadError};
+use vcd_text::{Fault, ReadError};
 
 /// Why a file was not amended. The output is as it was before, unless it is no regular file.
-#[derive(Clone, Copy, Debug, PartialEq, Eq)]
+#[derive(Clone, Copy)]
 pub enum AmendError {
     /// The capture is named twice.
     TwoCaptures,
@@ -30,7 +31,7 @@ pub enum AmendError {
 }
 
 /// Why no part was taken of a capture that can be read.
-#[derive(Clone, Copy, Debug, PartialEq, Eq)]
+#[derive(Clone, Copy)]
 pub enum PartFault {
     /// The word after `--from` is no time.
     BadFrom,

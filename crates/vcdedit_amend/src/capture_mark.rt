@@ -9,12 +9,12 @@ ghost use Rattle.vcdedit_amend.specs.Marks as spec;
 
 use crate::amend_error::{AmendError, NO_MEMORY, NOT_READ};
 use crate::command_line::VERSION;
-use crate::passes::CaptureFile;
 use sha2::{Digest, Sha256};
 use std::alloc::Global;
 use std::rt::Runtime;
+use vcd_copy::MarkHead;
 use vcd_core::Source;
-use vcd_text::MarkHead;
+use vcd_devices::CaptureFile;
 
 /// How many bytes of a capture are read at once.
 const CHUNK: usize = 65_536;
@@ -33,7 +33,7 @@ pub fn digest_of<R: Runtime + AllocGlobal>(
 ) -> Result<CaptureDigest, AmendError>
     ensures { IfErr result (λ e. (e ≡ not_read) ⊎ (e ≡ no_memory)) }
 {
-    let mut source = capture.open(rt)?;
+    let mut source = capture.open(rt).map_err(|_| NOT_READ)?;
     read_digest(rt.alloc(), &mut source)
 }
 

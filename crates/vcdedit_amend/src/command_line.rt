@@ -28,7 +28,7 @@ const AFTER_HELP: &str = "\
 A script has the lines that `vcdedit --help` shows, and each gets the same reply on standard output.
 
 The output takes the place of a file only when it is whole, so it may be the capture itself: until
-then it is beside it, as .NAME.vcdedit. A link is followed. Anything but a regular file, such as
+then it is beside it, in .NAME.vcdedit. A link is followed. Anything but a regular file, such as
 /dev/stdout, is written as it is.
 
 Not edited here:

@@ -1,29 +1,22 @@
 //! `vcdedit-amend`: edits a four-state value change dump file (IEEE 1364-2005, 18.2) of any size by
 //! script. The file stays as it is, except for what the edits touch.
 //!
-//! `amend_run` of `vcd_amend` does that with devices that it is given; `VcdeditAmend` opens files
-//! for it, puts the output in its place, and says how words of the command line may end.
+//! `amend_run` of `vcd_amend_run` does that with devices that it is given, which are those of
+//! `vcd_devices`. `VcdeditAmend` opens files for it, puts the output in its place, and says how
+//! words of the command line may end.
 #![tactic(auto)]
 
 mod amend_error;
 mod capture_mark;
 mod command_line;
-mod file_reasons;
-mod mark_search;
-mod memory_forecast;
+mod job;
 mod near;
 mod part;
-mod part_file;
 mod part_remarks;
 mod part_words;
 mod passes;
 mod program;
-mod progress;
-mod remarks;
 mod reporting;
-mod summed;
-#[cfg(test)]
-mod tests;
 
 pub use amend_error::{AmendError, PartFault};
 pub use program::VcdeditAmend;

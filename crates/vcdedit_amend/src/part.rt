@@ -1,39 +1,42 @@
 //! A part of the capture: it is the output, or the script is carried out on it.
 
-ghost use Rattle.std.specs.Prelude.{◌≡◌, ◌≤◌, ◌⊎◌, false, true, Some, None, Err, OnOk};
-ghost use Rattle.std.specs.Prelude.{IfErr, is_some};
+ghost use Rattle.std.specs.Prelude.{◌≡◌, ◌⊎◌, false, true, Some, None, Err, OnOk, IfErr};
 ghost use Rattle.vcd_core.specs.Devices.{device_end, DeviceEnd};
 ghost use Rattle.vcdedit_amend.specs.CommandLine.{AskedOptions, options_in};
 ghost use Rattle.vcdedit_amend.specs.ProgramEnds.{IsOutcomeOnFile, not_read};
 ghost use Rattle.vcdedit_amend.specs.PartOutcome as spec;
+ghost use Rattle.vcdedit_amend.specs.inside.Jobs.{HasDepth, IsReady};
 
-use crate::amend_error::{AmendError, NO_PART_FILE, NO_SCRIPT, NOT_READ};
+use crate::amend_error::{AmendError, NO_MEMORY, NO_PART_FILE, NO_SCRIPT, NOT_READ};
 use crate::capture_mark::{digest_of, head_of};
 use crate::command_line::Options;
-use crate::mark_search::{MarkSearch, Searched, tell_earlier_mark, tell_unended_line};
+use crate::job::{Job, PartJob, inputs_of};
 use crate::near::tell_unmet;
-use crate::part_file::PartFile;
 use crate::part_remarks::{remark_on_part, tell_held_part};
 use crate::part_words::request_of;
-use crate::passes::{CaptureFile, refuse_replaced};
+use crate::passes::refuse_replaced;
 use crate::program::run_on_file;
+use std::fs::File;
+use std::io::{ErrorKind, Read};
 use std::rt::Runtime;
 use std::{fs, io};
-use vcd_amend::{AmendRunError, Nowhere};
-use vcd_core::{FromRead, Sink, Source, ToWrite};
-use vcd_journal::DEPTH_LIMIT;
+use vcd_amend::Nowhere;
+use vcd_amend_run::AmendRunError;
+use vcd_core::{Sink, Source, ToWrite};
+use vcd_devices::{
+    CaptureFile, PartFile, SafeFile, Watched, open_input, tell_earlier_mark, tell_reason,
+    tell_unended_line,
+};
 use vcd_part::{Request, WrittenPart, write_part};
 use vcd_script::{RunError, Summary};
-use vcd_shell::{SafeFile, open_capture};
-use vcd_text::{MarkHead, WriteError};
+use vcd_text::WriteError;
 
 /// Takes the part that is asked for.
-pub fn run_part<R: Runtime + AllocGlobal>(
+pub fn run_part<R: Runtime<File = File> + AllocGlobal>(
     rt: &R,
     options: &Options<'_, '_>,
 ) -> Result<Summary, AmendError>
-    requires depth_least { 1 ≤ options.now.depth }
-    requires depth_most { options.now.depth ≤ DEPTH_LIMIT }
+    requires depth { HasDepth options.now }
     ensures { spec.IsOutcomeWithPart (options_in options.now) result }
 {
     if options.input.is_some() && options.capture.is_some() {
@@ -47,78 +50,90 @@ pub fn run_part<R: Runtime + AllocGlobal>(
 }
 
 /// Takes the part, with a mark if one is asked for. The mark says what the capture is.
-fn run_request<R: Runtime + AllocGlobal>(
+fn run_request<R: Runtime<File = File> + AllocGlobal>(
     rt: &R,
     options: &Options<'_, '_>,
     request: Request<'_, '_>,
 ) -> Result<Summary, AmendError>
-    requires depth_least { 1 ≤ options.now.depth }
-    requires depth_most { options.now.depth ≤ DEPTH_LIMIT }
+    requires depth { HasDepth options.now }
     ensures { spec.IsOutcomeOfRequest (options_in options.now) request.entry result }
 {
     let path = options.input.or(options.capture);
-    let again = find_file(rt, path);
+    let capture = find_file(rt, path);
     if !options.is_marked {
-        return run_opened(rt, options, request, path, again, None);
+        let job = Job {
+            options,
+            capture,
+            mark: None,
+        };
+        return run_opened(rt, path, &PartJob { job, request });
     }
-    let (Some(named), Some(file)) = (path, again) else {
+    let (Some(named), Some(file)) = (path, capture) else {
         return Err(AmendError::NotAFile);
     };
     let found = digest_of(rt, file)?;
     let mark = Some(head_of(named, found.size, found.digest.as_str()));
-    run_opened(rt, options, request, path, again, mark)
+    let job = Job {
+        options,
+        capture,
+        mark,
+    };
+    run_opened(rt, path, &PartJob { job, request })
 }
 
 /// Opens the capture, and takes the part. A part that is to have a mark is held in a file of its
 /// own first, as one on which a script is carried out.
-fn run_opened<R: Runtime + AllocGlobal>(
+fn run_opened<R: Runtime<File = File> + AllocGlobal>(
     rt: &R,
-    options: &Options<'_, '_>,
-    request: Request<'_, '_>,
     path: Option<&str>,
-    again: Option<CaptureFile<'_>>,
-    mark: Option<MarkHead<'_>>,
+    part: &PartJob<'_>,
 ) -> Result<Summary, AmendError>
-    requires depth_least { 1 ≤ options.now.depth }
-    requires depth_most { options.now.depth ≤ DEPTH_LIMIT }
-    requires marked { is_some mark ≡ options.now.is_marked }
-    ensures { spec.IsOutcomeOfRequest (options_in options.now) request.entry result }
+    requires { IsReady part.now.job }
+    ensures { spec.IsOutcomeOfRequest (options_in part.now.job.options.now) part.now.request
+        result }
 {
-    let source = open_capture(rt, path).map_err(|_| NOT_READ)?;
-    let mut source = FromRead::new(source);
-    match options.script {
+    let mut source = open_input(rt, path).map_err(|_| NOT_READ)?;
+    match part.job.options.script {
         Some(script) => {
             // before the part is taken, which may last
-            if fs::metadata(rt, script).is_err() {
-                return Err(NO_SCRIPT);
-            }
-            run_on_part(rt, &mut source, again, request, mark, options)
+            look_at_script(rt, script)?;
+            run_on_part(rt, &mut source, part)
         }
-        None if options.is_marked => run_on_part(rt, &mut source, again, request, mark, options),
-        None => write_searched(rt, source, again, request, options),
+        None if part.job.options.is_marked => run_on_part(rt, &mut source, part),
+        None => write_watched(rt, &mut source, part),
     }
+}
+
+/// Refuses a run whose script is not there.
+fn look_at_script<R: Runtime + AllocGlobal>(rt: &R, path: &str) -> Result<(), AmendError>
+    ensures { IfErr result (λ e. e ≡ NO_SCRIPT) }
+{
+    if let Err(error) = fs::metadata(rt, path) {
+        tell_reason(rt, path, &error);
+        return Err(NO_SCRIPT);
+    }
+    Ok(())
 }
 
 /// Writes the part where the options say, and tells if it has a mark of an earlier run, or the
 /// capture's last line has no line feed.
-fn write_searched<R: Runtime + AllocGlobal, C: Source + Drop>(
+fn write_watched<'a, R: Runtime<File = File> + AllocGlobal, F: Read>(
     rt: &R,
-    source: C,
-    again: Option<CaptureFile<'_>>,
-    request: Request<'_, '_>,
-    options: &Options<'_, '_>,
+    source: &mut Watched<'a, R, F>,
+    part: &PartJob<'_>,
 ) -> Result<Summary, AmendError>
-    requires ready { C.has_failed source ≡ false }
-    requires no_script { (options_in options.now).script ≡ None }
-    ensures { spec.IsOutcomeOfRequest (options_in options.now) request.entry result }
+    requires ready { ⟦<Watched<'a, R, F> as Source>⟧.has_failed source.old ≡ false }
+    requires no_script { (options_in part.now.job.options.now).script ≡ None }
+    ensures { spec.IsOutcomeOfRequest (options_in part.now.job.options.now) part.now.request
+        result }
 {
-    let mut source = Searched::new(source, Some(MarkSearch::new()));
-    let outcome = write_output(rt, &mut source, again, request, options);
-    if outcome.is_ok() && !options.is_quiet {
-        if source.has_found_mark() {
+    let outcome = write_output(rt, source, part);
+    if outcome.is_ok() && !part.job.options.is_quiet {
+        let search = source.search();
+        if search.has_found_mark() {
             tell_earlier_mark(rt);
         }
-        if source.ends_within_line() {
+        if search.ends_within_line() {
             tell_unended_line(rt);
         }
     }
@@ -126,52 +141,48 @@ fn write_searched<R: Runtime + AllocGlobal, C: Source + Drop>(
 }
 
 /// Writes the part where the options say.
-fn write_output<R: Runtime + AllocGlobal, C: Source>(
+fn write_output<R: Runtime<File = File> + AllocGlobal, C: Source>(
     rt: &R,
     source: &mut C,
-    again: Option<CaptureFile<'_>>,
-    request: Request<'_, '_>,
-    options: &Options<'_, '_>,
+    part: &PartJob<'_>,
 ) -> Result<Summary, AmendError>
     requires ready { C.has_failed source.old ≡ false }
-    requires no_script { (options_in options.now).script ≡ None }
-    ensures { spec.IsOutcomeOfRequest (options_in options.now) request.entry result }
+    requires no_script { (options_in part.now.job.options.now).script ≡ None }
+    ensures { spec.IsOutcomeOfRequest (options_in part.now.job.options.now) part.now.request
+        result }
 {
-    match options.output {
-        Some(output) => write_to_file(rt, source, again, request, output, options.is_quiet),
-        None => write_to_standard(rt, source, again, request, options.is_quiet),
+    match part.job.options.output {
+        Some(path) => write_to_file(rt, source, part, path),
+        None => write_to_standard(rt, source, part),
     }
 }
 
 /// The capture, if it is a regular file, which can be read again.
 fn find_file<'a, R: Runtime>(rt: &R, path: Option<&'a str>) -> Option<CaptureFile<'a>> {
     match path {
-        Some(path) if path != "-" => CaptureFile::find(rt, path).ok(),
+        Some(path) if path != "-" => CaptureFile::find(rt, path).ok().flatten(),
         _ => None,
     }
 }
 
 /// Writes the part to a file, which is then put in its place, and remarks on it.
-fn write_to_file<R: Runtime + AllocGlobal, C: Source>(
+fn write_to_file<R: Runtime<File = File> + AllocGlobal, C: Source>(
     rt: &R,
     source: &mut C,
-    again: Option<CaptureFile<'_>>,
-    request: Request<'_, '_>,
+    part: &PartJob<'_>,
     path: &str,
-    is_quiet: bool,
 ) -> Result<Summary, AmendError>
     requires { C.has_failed source.old ≡ false }
     ensures { (o : AskedOptions) → o.script ≡ None → o.output ≡ Some path.now →
-        spec.IsOutcomeOfRequest o request.entry result }
+        spec.IsOutcomeOfRequest o part.now.request result }
 {
-    let mut file = SafeFile::begin(rt, path)?;
+    let mut file = SafeFile::begin(rt, path, inputs_of(rt, &part.job))?;
     if !file.is_beside() {
-        check_first(rt, again, request)?;
+        check_first(rt, part)?;
     }
-    let written = take_part(rt, source, again, request, &mut file)?;
-    refuse_replaced(rt, again)?;
+    let written = take_part(rt, source, part, &mut file)?;
     file.commit()?;
-    remark_on_part(rt, is_quiet, &written);
+    remark_on_part(rt, part.job.options.is_quiet, &written);
     Ok(Summary { refused: 0 })
 }
 
@@ -179,47 +190,62 @@ fn write_to_file<R: Runtime + AllocGlobal, C: Source>(
 fn write_to_standard<R: Runtime + AllocGlobal, C: Source>(
     rt: &R,
     source: &mut C,
-    again: Option<CaptureFile<'_>>,
-    request: Request<'_, '_>,
-    is_quiet: bool,
+    part: &PartJob<'_>,
 ) -> Result<Summary, AmendError>
     requires { C.has_failed source.old ≡ false }
     ensures { (o : AskedOptions) → o.script ≡ None →
-        spec.IsOutcomeOfRequest o request.entry result }
+        spec.IsOutcomeOfRequest o part.now.request result }
 {
-    check_first(rt, again, request)?;
+    check_first(rt, part)?;
     let mut standard = ToWrite::new(io::writer(rt));
-    let written = take_part(rt, source, again, request, &mut standard)?;
-    refuse_replaced(rt, again)?;
-    remark_on_part(rt, is_quiet, &written);
+    let written = take_part(rt, source, part, &mut standard)?;
+    refuse_replaced(rt, part.job.capture)?;
+    remark_on_part(rt, part.job.options.is_quiet, &written);
     Ok(Summary { refused: 0 })
 }
 
 /// Takes the part to a file of its own, remarks on it, and carries the script out on it, or none
 /// for a mark.
-fn run_on_part<R: Runtime + AllocGlobal, C: Source>(
+fn run_on_part<R: Runtime<File = File> + AllocGlobal, C: Source>(
     rt: &R,
     source: &mut C,
-    again: Option<CaptureFile<'_>>,
-    request: Request<'_, '_>,
-    mark: Option<MarkHead<'_>>,
-    options: &Options<'_, '_>,
+    part: &PartJob<'_>,
 ) -> Result<Summary, AmendError>
     requires ready { C.has_failed source.old ≡ false }
-    requires held { spec.IsHeld (options_in options.now) }
-    requires depth_least { 1 ≤ options.now.depth }
-    requires depth_most { options.now.depth ≤ DEPTH_LIMIT }
-    requires marked { is_some mark ≡ options.now.is_marked }
-    ensures { spec.IsOutcomeOfRequest (options_in options.now) request.entry result }
+    requires job_ready { IsReady part.now.job }
+    requires held { spec.IsHeld (options_in part.now.job.options.now) }
+    ensures { spec.IsOutcomeOfRequest (options_in part.now.job.options.now) part.now.request
+        result }
 {
-    let (part, file) = PartFile::create(rt)?;
-    match hold_part(rt, source, again, request, file) {
+    let (held, file) = create_part_file(rt)?;
+    match hold_part(rt, source, part, file) {
         Ok(written) => {
-            remark_on_part(rt, options.is_quiet, &written);
-            tell_held_part(rt, options);
-            run_on_file_of(rt, &part, again, mark, options)
+            remark_on_part(rt, part.job.options.is_quiet, &written);
+            tell_held_part(rt, part.job.options);
+            run_on_file_of(rt, &held, &part.job)
         }
         Err(error) => Err(on_part_file(error)),
+    }
+}
+
+/// Creates the file that holds the part, with a writer to it.
+fn create_part_file<'a, R: Runtime<File = File> + AllocGlobal>(
+    rt: &'a R,
+) -> Result<(PartFile<'a, R>, File), AmendError>
+    ensures { IfErr result spec.IsPartFileFault }
+{
+    let held = PartFile::create(rt).map_err(part_file_error)?;
+    let file = held.writer().map_err(part_file_error)?;
+    Ok((held, file))
+}
+
+/// Why the file of the part can't be made.
+fn part_file_error(error: io::Error) -> AmendError
+    ensures { spec.IsPartFileFault result }
+{
+    match error.kind() {
+        ErrorKind::OutOfMemory => NO_MEMORY,
+        _ => NO_PART_FILE,
     }
 }
 
@@ -227,53 +253,44 @@ fn run_on_part<R: Runtime + AllocGlobal, C: Source>(
 fn hold_part<R: Runtime + AllocGlobal, C: Source>(
     rt: &R,
     source: &mut C,
-    again: Option<CaptureFile<'_>>,
-    request: Request<'_, '_>,
-    file: R::File,
+    part: &PartJob<'_>,
+    file: File,
 ) -> Result<WrittenPart, AmendError>
     requires { C.has_failed source.old ≡ false }
     ensures { (capture : DeviceEnd) × (out : DeviceEnd)
-        × spec.IsTaken request.entry capture out result }
+        × spec.IsTaken part.now.request capture out result }
 {
     let mut writer = ToWrite::new(file);
-    take_part(rt, source, again, request, &mut writer)
+    take_part(rt, source, part, &mut writer)
 }
 
 /// Carries the script out on the file of the part.
-fn run_on_file_of<R: Runtime + AllocGlobal>(
+fn run_on_file_of<R: Runtime<File = File> + AllocGlobal>(
     rt: &R,
-    part: &PartFile<'_, R>,
-    again: Option<CaptureFile<'_>>,
-    mark: Option<MarkHead<'_>>,
-    options: &Options<'_, '_>,
+    held: &PartFile<'_, R>,
+    job: &Job<'_>,
 ) -> Result<Summary, AmendError>
-    requires depth_least { 1 ≤ options.now.depth }
-    requires depth_most { options.now.depth ≤ DEPTH_LIMIT }
-    requires marked { is_some mark ≡ options.now.is_marked }
+    requires { IsReady job.now }
     ensures { (result ≡ Err spec.no_part_file)
-        ⊎ IsOutcomeOnFile (options_in options.now) result }
+        ⊎ IsOutcomeOnFile (options_in job.now.options.now) result }
 {
-    match CaptureFile::find(rt, part.path()) {
-        Ok(found) => run_on_file(rt, found, again, mark, options),
-        Err(_) => Err(NO_PART_FILE),
+    match CaptureFile::find(rt, held.path()) {
+        Ok(Some(file)) => run_on_file(rt, file, job),
+        _ => Err(NO_PART_FILE),
     }
 }
 
 /// Refuses a part of a regular file, of which nothing is to be written before it is checked. What
 /// is read but once is written as it comes.
-fn check_first<R: Runtime + AllocGlobal>(
-    rt: &R,
-    again: Option<CaptureFile<'_>>,
-    request: Request<'_, '_>,
-) -> Result<(), AmendError>
+fn check_first<R: Runtime + AllocGlobal>(rt: &R, part: &PartJob<'_>) -> Result<(), AmendError>
     ensures { IfErr result (λ e. (e ≡ not_read) ⊎ ((capture : DeviceEnd) × (out : DeviceEnd)
-        × spec.IsTaken request.entry capture out (Err e))) }
+        × spec.IsTaken part.now.request capture out (Err e))) }
 {
-    let Some(file) = again else {
+    let Some(file) = part.job.capture else {
         return Ok(());
     };
-    let mut source = file.open(rt)?;
-    take_part(rt, &mut source, again, request, &mut Nowhere::new())?;
+    let mut source = file.open(rt).map_err(|_| NOT_READ)?;
+    take_part(rt, &mut source, part, &mut Nowhere::new())?;
     Ok(())
 }
 
@@ -282,21 +299,20 @@ fn check_first<R: Runtime + AllocGlobal>(
 fn take_part<R: Runtime + AllocGlobal, C: Source, W: Sink>(
     rt: &R,
     source: &mut C,
-    again: Option<CaptureFile<'_>>,
-    request: Request<'_, '_>,
+    part: &PartJob<'_>,
     writer: &mut W,
 ) -> Result<WrittenPart, AmendError>
     requires reader_ready { C.has_failed source.old ≡ false }
     requires writer_ready { W.has_failed writer.old ≡ false }
-    ensures taken { spec.IsTaken request.entry
+    ensures taken { spec.IsTaken part.now.request
         (device_end C.coming C.has_failed source.old source.new)
         (device_end W.taken W.has_failed writer.old writer.new) result }
     ensures flushed { OnOk result (W.is_flushed writer.new ≡ true) }
 {
-    match write_part(rt.alloc(), source, request, writer) {
+    match write_part(rt.alloc(), source, part.request, writer) {
         Ok(written) => Ok(written),
         Err(error) => {
-            tell_unmet(rt, again, &error);
+            tell_unmet(rt, part.job.capture, &error);
             Err(error.into())
         }
     }

@@ -4,13 +4,13 @@ ghost use Rattle.std.specs.Prelude.{◌≡◌, ◌++◌, map, IfOk, OnOk};
 ghost use Rattle.vcdedit_amend.specs.PartRemarks as spec;
 
 use crate::command_line::Options;
-use crate::remarks::Remarks;
 use itoa::Buffer;
 use std::alloc::Global;
 use std::io::Eprint;
 use std::rt::Runtime;
-use vcd_amend::{append_names_remark, append_removed_remark};
+use vcd_amend_run::{append_names_remark, append_removed_remark};
 use vcd_core::{NoMemory, Word, copy_word, write_all};
+use vcd_devices::Remarks;
 use vcd_part::{NamedVariable, WrittenPart};
 
 /// Remarks on a part, unless the program is to be quiet. If memory runs out, it makes no remark.

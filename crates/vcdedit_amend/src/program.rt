@@ -1,41 +1,38 @@
 //! The program: the capture, the script and the output are opened, the script is run, and the
 //! output is put in its place.
 
-ghost use Rattle.std.specs.Prelude.{◌≡◌, ◌≤◌, false, true, Some, None, Ok, Err, IfOk, IfErr};
-ghost use Rattle.std.specs.Prelude.{is_some};
+ghost use Rattle.std.specs.Prelude.{◌≡◌, ℕ, List, false, true, Some, None, Ok, Err, IfOk, IfErr};
 ghost use Rattle.std.specs.Option.{option_copied};
 ghost use Rattle.vcd_core.specs.Devices.{device_end};
-ghost use Rattle.vcd_amend.specs.AmendRunEnds.{AreReady};
+ghost use Rattle.vcd_amend_run.specs.AmendRunEnds.{AreReady};
 ghost use Rattle.vcdedit_amend.specs.CommandLine.{options_in};
 ghost use Rattle.vcdedit_amend.specs.OptionsEnd.{IsOutcomeOfOptions};
 ghost use Rattle.vcdedit_amend.specs.ProgramEnds.{IsOutcomeOnFile, IsOutcomeOn};
 ghost use Rattle.vcdedit_amend.specs.ProgramEnds as spec;
 ghost use Rattle.vcdedit_amend.specs.Sums.{HaveOneSum};
+ghost use Rattle.vcdedit_amend.specs.inside.Jobs.{HasDepth, IsReady};
 
 use crate::amend_error::{AmendError, NO_MEMORY, NO_SCRIPT};
 use crate::capture_mark::{digest_of, head_of};
 use crate::command_line::{Options, command_line, options_of};
-use crate::file_reasons::tell_reason;
-use crate::mark_search::{tell_earlier_mark, tell_part_comment, tell_unended_line};
+use crate::job::{Job, inputs_of};
 use crate::part::run_part;
-use crate::passes::{
-    CaptureFile, Pass, clear_progress, end_within_line, have_found_mark, have_found_part,
-    refuse_changed, refuse_replaced,
-};
-use crate::remarks::Remarks;
+use crate::passes::{clear_progress, find_capture, open_passes, refuse_changed};
 use crate::reporting::{PROGRAM, report};
-use crate::summed::Summed;
 use clap::{ArgMatches, Command};
 use std::alloc::{AllocError, Global};
+use std::fs::File;
 use std::io;
 use std::io::BufWriter;
 use std::rt::Runtime;
-use vcd_amend::{Passes, amend_run};
-use vcd_core::{FromBytes, FromRead, Sink, Source, ToBytes, ToWrite};
-use vcd_journal::DEPTH_LIMIT;
+use vcd_amend_run::{Passes, amend_run};
+use vcd_core::{FromBytes, Sink, Source, ToBytes, ToWrite};
+use vcd_devices::{
+    CaptureFile, CaptureSearch, OutputFault, Pass, Remarks, SafeFile, Summed, open_named,
+    tell_earlier_mark, tell_part_comment, tell_unended_line,
+};
 use vcd_script::Summary;
-use vcd_shell::{DEFAULT_SCRIPT, OutputFault, Program, SafeFile, done_status, open_script};
-use vcd_text::MarkHead;
+use vcd_shell::{DEFAULT_SCRIPT, Program, done_status};
 
 /// How many bytes of replies are buffered before they are written.
 const BUFFER: usize = 65_536;
@@ -76,16 +73,11 @@ impl Program for VcdeditAmend {
         command_line(alloc)
     }
 
-    fn carry_out<R: Runtime + AllocGlobal>(
+    fn carry_out<R: Runtime<File = File> + AllocGlobal>(
         rt: &R,
         matches: &ArgMatches<'_>,
     ) -> Result<Summary, AmendError> {
-        let options = options_of(matches);
-        let outcome = run_options(rt, &options);
-        if let Err(error) = &outcome {
-            tell_reason(rt, &options, error);
-        }
-        outcome
+        run_options(rt, &options_of(matches))
     }
 
     fn report<W: Sink>(outcome: &Result<Summary, AmendError>, writer: &mut W) -> u8 {
@@ -96,13 +88,12 @@ impl Program for VcdeditAmend {
     }
 }
 
-/// Opens the capture and the script before either is read, and runs.
-fn run_options<R: Runtime + AllocGlobal>(
+/// Carries out what the options ask for.
+fn run_options<R: Runtime<File = File> + AllocGlobal>(
     rt: &R,
     options: &Options<'_, '_>,
 ) -> Result<Summary, AmendError>
-    requires depth_least { 1 ≤ options.now.depth }
-    requires depth_most { options.now.depth ≤ DEPTH_LIMIT }
+    requires depth { HasDepth options.now }
     ensures { IsOutcomeOfOptions (options_in options.now) result }
 {
     if options.ask_for_part() {
@@ -112,13 +103,7 @@ fn run_options<R: Runtime + AllocGlobal>(
     if options.is_marked && options.output.is_none() {
         return Err(AmendError::NothingToMark);
     }
-    let capture = CaptureFile::find(rt, path)?;
-    if options.is_marked {
-        let found = digest_of(rt, capture)?;
-        let mark = Some(head_of(path, found.size, found.digest.as_str()));
-        return run_on_file(rt, capture, Some(capture), mark, options);
-    }
-    run_on_file(rt, capture, Some(capture), None, options)
+    run_on_path(rt, path, options)
 }
 
 /// The path of the capture, which is named once, and is not standard input.
@@ -135,80 +120,84 @@ fn capture_path<'a>(input: Option<&'a str>, capture: Option<&'a str>) -> Result<
     }
 }
 
-/// Opens the capture and the script, and runs. No output is put in its place if a guarded file was
-/// changed.
-pub fn run_on_file<R: Runtime + AllocGlobal>(
+/// Runs on the whole capture. For a mark it is read once before all passes over it.
+fn run_on_path<'r, R: Runtime<File = File> + AllocGlobal>(
     rt: &R,
-    capture: CaptureFile<'_>,
-    guarded: Option<CaptureFile<'_>>,
-    mark: Option<MarkHead<'_>>,
-    options: &Options<'_, '_>,
+    path: &'r str,
+    options: &'r Options<'r, 'r>,
 ) -> Result<Summary, AmendError>
-    requires depth_least { 1 ≤ options.now.depth }
-    requires depth_most { options.now.depth ≤ DEPTH_LIMIT }
-    requires marked { is_some mark ≡ options.now.is_marked }
+    requires depth { HasDepth options.now }
     ensures { IsOutcomeOnFile (options_in options.now) result }
 {
-    let mut passes = capture.open_passes(rt)?;
-    let outcome = run_passes(rt, guarded, &mut passes, mark, options);
+    let capture = find_capture(rt, path)?;
+    if !options.is_marked {
+        let job = Job {
+            options,
+            capture: Some(capture),
+            mark: None,
+        };
+        return run_on_file(rt, capture, &job);
+    }
+    let found = digest_of(rt, capture)?;
+    let mark = head_of(path, found.size, found.digest.as_str());
+    let job = Job {
+        options,
+        capture: Some(capture),
+        mark: Some(mark),
+    };
+    run_on_file(rt, capture, &job)
+}
+
+/// Runs on this file, which is the capture or holds a part of it, and tells what was found in it.
+pub fn run_on_file<R: Runtime<File = File> + AllocGlobal>(
+    rt: &R,
+    file: CaptureFile<'_>,
+    job: &Job<'_>,
+) -> Result<Summary, AmendError>
+    requires { IsReady job.now }
+    ensures { IsOutcomeOnFile (options_in job.now.options.now) result }
+{
+    let mut passes = open_passes(rt, file)?;
+    let outcome = run_passes(rt, &mut passes, job);
     clear_progress(&mut passes);
-    if outcome.is_ok() && !options.is_quiet {
-        let is_unmarked = options.output.is_some() && !options.is_marked;
-        if is_unmarked && have_found_mark(&mut passes) {
-            tell_earlier_mark(rt);
-        }
-        if is_unmarked && have_found_part(&mut passes) {
-            tell_part_comment(rt);
-        }
-        if end_within_line(&mut passes) {
-            tell_unended_line(rt);
-        }
+    if outcome.is_ok() && !job.options.is_quiet {
+        tell_found(rt, &passes.declarations.source().search(), job.options);
     }
     outcome
 }
 
+/// Tells what was found in the capture.
+fn tell_found<R: Runtime>(rt: &R, search: &CaptureSearch, options: &Options<'_, '_>) {
+    let is_unmarked = options.output.is_some() && !options.is_marked;
+    if is_unmarked && search.has_found_mark() {
+        tell_earlier_mark(rt);
+    }
+    if is_unmarked && search.has_found_part() {
+        tell_part_comment(rt);
+    }
+    if search.ends_within_line() {
+        tell_unended_line(rt);
+    }
+}
+
 /// Opens the script, and runs.
-fn run_passes<'a, R: Runtime + AllocGlobal>(
+fn run_passes<'a, R: Runtime<File = File> + AllocGlobal>(
     rt: &'a R,
-    guarded: Option<CaptureFile<'_>>,
     passes: &mut Passes<Pass<'a, R>>,
-    mark: Option<MarkHead<'_>>,
-    options: &Options<'_, '_>,
+    job: &Job<'_>,
 ) -> Result<Summary, AmendError>
-    requires depth_least { 1 ≤ options.now.depth }
-    requires depth_most { options.now.depth ≤ DEPTH_LIMIT }
-    requires marked { is_some mark ≡ options.now.is_marked }
+    requires job_ready { IsReady job.now }
     requires passes_ready { AreReady ⟦<Pass<'a, R> as Source>⟧.has_failed passes.old }
-    ensures { IsOutcomeOnFile (options_in options.now) result }
+    ensures { IsOutcomeOnFile (options_in job.now.options.now) result }
 {
-    let remarks = &mut Remarks::new(rt, options.is_quiet);
-    match options.script {
+    match job.options.script {
         Some(path) => {
-            let script = open_script(rt, path).map_err(|_| NO_SCRIPT)?;
-            let script = &mut FromRead::new(script);
-            run_inputs(
-                rt,
-                guarded,
-                passes,
-                script,
-                remarks,
-                mark,
-                options.output,
-                options.depth,
-            )
+            let mut script = open_named(rt, path).map_err(|_| NO_SCRIPT)?;
+            run_inputs(rt, passes, &mut script, job)
         }
         None => {
-            let script = &mut FromBytes::new(script_without_path(options));
-            run_inputs(
-                rt,
-                guarded,
-                passes,
-                script,
-                remarks,
-                mark,
-                options.output,
-                options.depth,
-            )
+            let mut script = FromBytes::new(script_without_path(job.options));
+            run_inputs(rt, passes, &mut script, job)
         }
     }
 }
@@ -224,115 +213,87 @@ fn script_without_path(options: &Options<'_, '_>) -> &'static [u8]
 }
 
 /// Runs with a buffer for the replies to standard output.
-fn run_inputs<R: Runtime + AllocGlobal, C: Source, S: Source, Q: Sink>(
+fn run_inputs<R: Runtime<File = File> + AllocGlobal, C: Source, S: Source>(
     rt: &R,
-    guarded: Option<CaptureFile<'_>>,
     passes: &mut Passes<Summed<C>>,
     script: &mut S,
-    remarks: &mut Q,
-    mark: Option<MarkHead<'_>>,
-    output: Option<&str>,
-    depth: u64,
+    job: &Job<'_>,
 ) -> Result<Summary, AmendError>
-    requires depth_least { 1 ≤ depth }
-    requires depth_most { depth ≤ DEPTH_LIMIT }
+    requires job_ready { IsReady job.now }
     requires passes_ready { AreReady ⟦<Summed<C> as Source>⟧.has_failed passes.old }
     requires script_ready { S.has_failed script.old ≡ false }
-    requires remarks_ready { Q.has_failed remarks.old ≡ false }
-    ensures { IsOutcomeOn (option_copied output.entry) mark.entry result depth
-        (device_end S.coming S.has_failed script.old script.new) }
+    ensures { IsOutcomeOn (option_copied job.now.options.now.output) job.now.mark result
+        job.now.options.now.depth (device_end S.coming S.has_failed script.old script.new) }
 {
     let writer = io::writer(rt);
     let buffer = BufWriter::with_capacity(rt.alloc(), BUFFER, writer).map_err(|_| NO_MEMORY)?;
     let mut replies = ToWrite::new(buffer);
-    let outcome = run_to_output(
-        rt,
-        guarded,
-        passes,
-        script,
-        &mut replies,
-        remarks,
-        mark,
-        output,
-        depth,
-    );
+    let outcome = run_to_output(rt, passes, script, &mut replies, job);
     // what is left was flushed by the run, or else refused: it is not sent again
     let _ = replies.into_inner().into_parts();
     outcome
 }
 
 /// Runs with a file for the output, if there is one.
-fn run_to_output<R: Runtime + AllocGlobal, C: Source, S: Source, P: Sink, Q: Sink>(
+fn run_to_output<R: Runtime<File = File> + AllocGlobal, C: Source, S: Source, P: Sink>(
     rt: &R,
-    guarded: Option<CaptureFile<'_>>,
     passes: &mut Passes<Summed<C>>,
     script: &mut S,
     replies: &mut P,
-    remarks: &mut Q,
-    mark: Option<MarkHead<'_>>,
-    output: Option<&str>,
-    depth: u64,
+    job: &Job<'_>,
 ) -> Result<Summary, AmendError>
-    requires depth_least { 1 ≤ depth }
-    requires depth_most { depth ≤ DEPTH_LIMIT }
+    requires job_ready { IsReady job.now }
     requires passes_ready { AreReady ⟦<Summed<C> as Source>⟧.has_failed passes.old }
     requires script_ready { S.has_failed script.old ≡ false }
     requires replies_ready { P.has_failed replies.old ≡ false }
-    requires remarks_ready { Q.has_failed remarks.old ≡ false }
-    ensures { IsOutcomeOn (option_copied output.entry) mark.entry result depth
-        (device_end S.coming S.has_failed script.old script.new) }
+    ensures { IsOutcomeOn (option_copied job.now.options.now.output) job.now.mark result
+        job.now.options.now.depth (device_end S.coming S.has_failed script.old script.new) }
 {
-    match output {
-        Some(path) => run_to_file(
-            rt, guarded, passes, script, replies, remarks, mark, path, depth,
-        ),
-        None => run_without_file(rt, passes, script, replies, remarks, mark, depth),
+    match job.options.output {
+        Some(path) => {
+            let file = SafeFile::begin(rt, path, inputs_of(rt, job))?;
+            run_to_file(passes, script, replies, file, job)
+        }
+        None => run_without_file(rt, passes, script, replies, job),
     }
 }
 
 /// Runs with a file for the output, and then puts it in its place.
-fn run_to_file<R: Runtime + AllocGlobal, C: Source, S: Source, P: Sink, Q: Sink>(
-    rt: &R,
-    guarded: Option<CaptureFile<'_>>,
+fn run_to_file<'a, R: Runtime<File = File> + AllocGlobal, C: Source, S: Source, P: Sink>(
     passes: &mut Passes<Summed<C>>,
     script: &mut S,
     replies: &mut P,
-    remarks: &mut Q,
-    mark: Option<MarkHead<'_>>,
-    path: &str,
-    depth: u64,
+    mut file: SafeFile<'a, R>,
+    job: &Job<'_>,
 ) -> Result<Summary, AmendError>
-    requires depth_least { 1 ≤ depth }
-    requires depth_most { depth ≤ DEPTH_LIMIT }
+    requires job_ready { IsReady job.now }
     requires passes_ready { AreReady ⟦<Summed<C> as Source>⟧.has_failed passes.old }
     requires script_ready { S.has_failed script.old ≡ false }
     requires replies_ready { P.has_failed replies.old ≡ false }
-    requires remarks_ready { Q.has_failed remarks.old ≡ false }
-    ensures { IsOutcomeOn (Some path.now) mark.entry result depth
-        (device_end S.coming S.has_failed script.old script.new) }
+    requires file_ready { ⟦<SafeFile<'a, R> as Sink>⟧.has_failed file ≡ false }
+    ensures { (path : List ℕ) → IsOutcomeOn (Some path) job.now.mark result
+        job.now.options.now.depth (device_end S.coming S.has_failed script.old script.new) }
 {
-    let mut file = SafeFile::begin(rt, path)?;
-    let output = Some(&mut file);
+    let rt = file.runtime();
+    let mut remarks = Remarks::new(rt, job.options.is_quiet);
     let ended = amend_run(
         rt.alloc(),
         passes,
         script,
         replies,
-        remarks,
-        mark,
-        output,
-        depth,
+        &mut remarks,
+        job.mark,
+        Some(&mut file),
+        job.options.depth,
     );
     let summary = ended?;
     refuse_changed(passes)?;
-    // last, as another run may have put its output in the place of the capture
-    refuse_replaced(rt, guarded)?;
     put_in_place(file, passes)?;
     Ok(summary)
 }
 
 /// Puts the output in its place, of a run whose passes over the capture have one sum.
-fn put_in_place<'a, R: Runtime + AllocGlobal, C: Source>(
+fn put_in_place<'a, R: Runtime<File = File> + AllocGlobal, C: Source>(
     file: SafeFile<'a, R>,
     _passes: &Passes<Summed<C>>,
 ) -> Result<(), OutputFault>
@@ -343,34 +304,31 @@ fn put_in_place<'a, R: Runtime + AllocGlobal, C: Source>(
 }
 
 /// Runs without an output.
-fn run_without_file<R: Runtime + AllocGlobal, C: Source, S: Source, P: Sink, Q: Sink>(
+fn run_without_file<R: Runtime + AllocGlobal, C: Source, S: Source, P: Sink>(
     rt: &R,
     passes: &mut Passes<Summed<C>>,
     script: &mut S,
     replies: &mut P,
-    remarks: &mut Q,
-    mark: Option<MarkHead<'_>>,
-    depth: u64,
+    job: &Job<'_>,
 ) -> Result<Summary, AmendError>
-    requires depth_least { 1 ≤ depth }
-    requires depth_most { depth ≤ DEPTH_LIMIT }
+    requires job_ready { IsReady job.now }
     requires passes_ready { AreReady ⟦<Summed<C> as Source>⟧.has_failed passes.old }
     requires script_ready { S.has_failed script.old ≡ false }
     requires replies_ready { P.has_failed replies.old ≡ false }
-    requires remarks_ready { Q.has_failed remarks.old ≡ false }
-    ensures { IsOutcomeOn None mark.entry result depth
+    ensures { IsOutcomeOn None job.now.mark result job.now.options.now.depth
         (device_end S.coming S.has_failed script.old script.new) }
 {
+    let mut remarks = Remarks::new(rt, job.options.is_quiet);
     let output: Option<&mut ToBytes> = None;
     let summary = amend_run(
         rt.alloc(),
         passes,
         script,
         replies,
-        remarks,
-        mark,
+        &mut remarks,
+        job.mark,
         output,
-        depth,
+        job.options.depth,
     )?;
     refuse_changed(passes)?;
     Ok(summary)

@@ -8,8 +8,9 @@ ghost use Rattle.vcdedit_amend.specs.declared.amend_error.PartFault.TheVariants 
 
 use crate::amend_error::{AmendError, PartFault};
 use itoa::Buffer;
-use vcd_amend::AmendRunError;
+use vcd_amend_run::AmendRunError;
 use vcd_core::Sink;
+use vcd_devices::OutputFault;
 use vcd_part::Refusal;
 
 /// The program's name, as its lines on standard error begin.
@@ -38,7 +39,7 @@ fn error_status(error: &AmendError) -> u8
         AmendError::NothingToMark => 2,
         AmendError::Part(fault) => part_status(*fault),
         AmendError::Run(error) => run_status(error),
-        AmendError::Output(fault) => vcd_shell::output_status(*fault),
+        AmendError::Output(fault) => output_status(*fault),
     }
 }
 
@@ -80,7 +81,41 @@ fn report_error<W: Sink>(error: &AmendError, writer: &mut W)
         ),
         AmendError::Part(fault) => report_part(*fault, writer),
         AmendError::Run(error) => report_run(error, writer),
-        AmendError::Output(fault) => vcd_shell::report_output(PROGRAM, *fault, writer),
+        AmendError::Output(fault) => report_output(*fault, writer),
+    }
+}
+
+/// The exit status for a file of the output: 4, or 5 if memory ran out.
+fn output_status(fault: OutputFault) -> u8
+    ensures most { result ≤ 5 }
+    ensures status { result ≡ spec.output_status fault }
+{
+    match fault {
+        OutputFault::NoMemory => 5,
+        _ => 4,
+    }
+}
+
+/// Writes and flushes the line for a file of the output.
+fn report_output<W: Sink>(fault: OutputFault, writer: &mut W)
+    ensures { IsReported (W.has_failed writer.new) (W.is_flushed writer.new)
+        (W.taken writer.old) (W.taken writer.new) (spec.output_report fault) }
+{
+    vcd_shell::report(PROGRAM, output_text(fault).as_bytes(), writer);
+}
+
+/// What the line says for a file of the output.
+fn output_text(fault: OutputFault) -> &'static str
+    ensures { result.now ≡ spec.output_text fault }
+{
+    match fault {
+        OutputFault::Protected => "OutputProtected: the output is write-protected",
+        OutputFault::IsInput => "OutputIsInput: the output is the script, or a file that is read",
+        OutputFault::InUse =>
+            "OutputInUse: another run writes the output; if none does, remove .NAME.vcdedit",
+        OutputFault::CaptureChanged => "CaptureChanged: the capture was changed while it was read",
+        OutputFault::Failed => "output: write fault",
+        OutputFault::NoMemory => "out of memory",
     }
 }
 

@@ -7,8 +7,8 @@ use Rattle.vcd_text.specs.Items.{Item, variable, end_definitions, stamp, scalar,
 use Rattle.vcd_text.specs.Items.{timescale, scope, upscope, dump_word, other}
 use Rattle.vcd_text.specs.Grammar.{ParseState, initial_state, state_after, state_after_item}
 use Rattle.vcd_text.specs.Text.{item_line}
-use Rattle.vcd_text.specs.Pieces.{Piece, state_of_pieces}
-use Rattle.vcd_text.specs.Copied.{may_be_amended, copied_piece, copied_pieces}
+use Rattle.vcd_copy.specs.Pieces.{Piece, state_of_pieces}
+use Rattle.vcd_copy.specs.Copied.{may_be_amended, copied_piece, copied_pieces}
 use Rattle.vcd_amend.specs.Amendment.{Amendment}
 use Rattle.vcd_amend.specs.AmendedItems.{item_fate, inserted_items, still_none_yet}
 use Rattle.vcd_amend.specs.AmendedText.{bytes_in_place, amended_text}

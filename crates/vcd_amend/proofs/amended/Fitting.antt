@@ -13,7 +13,7 @@ use Rattle.vcd_core.specs.Wave.{value_at}
 use Rattle.vcd_core.proofs.shared.Waves.{value_at-changes_of}
 use Rattle.vcd_text.specs.Grammar.{ParseState, VariableDeclaration, is_skipped, kept_variables, may_have_code}
 use Rattle.vcd_text.specs.Meaning.{changes_of_code}
-use Rattle.vcd_text.proofs.pieces.Cuts.{all_parts}
+use Rattle.vcd_copy.proofs.pieces.Cuts.{all_parts}
 use Rattle.vcd_amend.specs.Amendment.{Amendment, AmendedCode, Fate, stays, fate_of, amended_variables, first_with_code}
 use Rattle.vcd_amend.specs.Amendment.{amended_code, variable_left, flat_map_along, is_used, variables_left}
 use Rattle.vcd_amend.specs.AmendedMeaning.{AreApart, class_of, FitsCode, FitsFate, FitsAmendedCode, FitsFile}

@@ -14,10 +14,10 @@ use Rattle.vcd_text.specs.Items.{Item, spelling, entry, timescale, scope, upscop
 use Rattle.vcd_text.specs.Items.{scalar, vector, real_or_string, dump_word, other, spellings}
 use Rattle.vcd_text.specs.Grammar.{word_texts, ParseState, initial_state, state_after, state_after_item, AllowsAll}
 use Rattle.vcd_text.specs.Grammar.{is_skipped}
-use Rattle.vcd_text.specs.Pieces.{Piece}
+use Rattle.vcd_copy.specs.Pieces.{Piece}
 use Rattle.vcd_text.proofs.read_back.Words.{is_unbroken, is_spelled}
-use Rattle.vcd_text.proofs.pieces.Bytes.{texts, texts_after, is_end, space_first, both_parts, joined_words, texts_are}
-use Rattle.vcd_text.proofs.pieces.Bytes.{lines_first, lines_last}
+use Rattle.vcd_copy.proofs.pieces.Bytes.{texts, texts_after, is_end, space_first, both_parts, joined_words, texts_are}
+use Rattle.vcd_copy.proofs.pieces.Bytes.{lines_first, lines_last}
 use Rattle.vcd_text.specs.Words.{words_of}
 use Rattle.vcd_text.specs.Meaning.{FileMeans}
 use Rattle.vcd_text.specs.Text.{item_line}

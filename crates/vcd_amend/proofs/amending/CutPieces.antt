@@ -14,9 +14,9 @@ use Rattle.vcd_text.specs.Items.{Item, variable, end_definitions, stamp, scalar,
 use Rattle.vcd_text.specs.Items.{timescale, scope, upscope, dump_word, other}
 use Rattle.vcd_text.specs.Grammar.{ParseState, initial_state, state_after_item}
 use Rattle.vcd_text.specs.Text.{item_line}
-use Rattle.vcd_text.specs.Pieces.{Piece, state_of_pieces}
-use Rattle.vcd_text.specs.Copied.{may_be_amended, copied_piece, copied_pieces, value_code}
-use Rattle.vcd_text.specs.Copied.{real_or_string_code}
+use Rattle.vcd_copy.specs.Pieces.{Piece, state_of_pieces}
+use Rattle.vcd_copy.specs.Copied.{may_be_amended, copied_piece, copied_pieces, value_code}
+use Rattle.vcd_copy.specs.Copied.{real_or_string_code}
 use Rattle.vcd_amend.specs.Amendment.{Amendment}
 use Rattle.vcd_amend.specs.AmendmentContents.{amendment_contents}
 use Rattle.vcd_amend.specs.AmendedItems.{item_fate, inserted_items, items_due_until, still_none_yet}
@@ -24,7 +24,7 @@ use Rattle.vcd_amend.specs.AmendedItems.{stands, is_left_out}
 use Rattle.vcd_amend.specs.AmendedText.{bytes_in_place}
 use Rattle.vcd_amend.specs.AmendedCopy.{amendment_rules}
 use Rattle.vcd_amend.specs.Retimed.{ChangeKey, digits_key, text_key, change_key, held_with}
-use Rattle.vcd_text.specs.Pieces.{stamp_line}
+use Rattle.vcd_copy.specs.Pieces.{stamp_line}
 use Rattle.vcd_amend.specs.Retimed.{pieces_in_place, code_of_key}
 use Rattle.vcd_amend.specs.Retimed.{released_pieces, new_tick}
 use Rattle.vcd_amend.specs.RetimedCopy.{pieces_of_step, held_of_step}

@@ -8,7 +8,7 @@ use Rattle.vcd_text.specs.Items.{Item, stamp}
 use Rattle.vcd_text.proofs.read_back.Decimals.{number_of-decimal}
 use Rattle.vcd_amend.specs.AmendedItems.{stands, is_left_out, is_exchanged}
 use Rattle.vcd_amend.specs.Retimed.{pieces_in_place}
-use Rattle.vcd_text.specs.Pieces.{stamp_line}
+use Rattle.vcd_copy.specs.Pieces.{stamp_line}
 use Rattle.vcd_amend.specs.RetimedCopy.{is_cut_by}
 use Rattle.vcd_amend.specs.declared.cut_ticks.CutTicks.{CutTicks}
 use Rattle.vcd_amend.proofs.retimed.Ticks.{rises}
@@ -17,7 +17,7 @@ use Rattle.std.specs.List.{filter, list_any}
 use Rattle.std.specs.Prelude.{bytes_eq, codes}
 use Rattle.std.proofs.lemmas.List.{append-nil}
 use Rattle.vcd_text.specs.Grammar.{ParseState, VariableDeclaration, initial_state, state_after_item, is_skipped}
-use Rattle.vcd_text.specs.Pieces.{Piece, state_of_pieces}
+use Rattle.vcd_copy.specs.Pieces.{Piece, state_of_pieces}
 use Rattle.vcd_text.specs.inside.reading.CodeTargets.{code_target}
 use Rattle.vcd_amend.specs.Retimed.{change_key, counts_with, new_tick, lasts, has_kept_variable}
 use Rattle.vcd_amend.specs.RetimedCopy.{pieces_of_step, held_of_step}

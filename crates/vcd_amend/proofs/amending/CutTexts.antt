@@ -3,8 +3,8 @@ use Rattle.std.proofs.Common.{◌≡◌, ◌∙◌, ◌++◌, ◌∷◌, [], ℕ
 use Rattle.vcd_text.specs.Items.{Item, entry, timescale, scope, upscope, variable, end_definitions, stamp, scalar}
 use Rattle.vcd_text.specs.Items.{vector, real_or_string, dump_word, other}
 use Rattle.vcd_text.specs.Grammar.{ParseState, initial_state, state_after_item}
-use Rattle.vcd_text.specs.Pieces.{Piece}
-use Rattle.vcd_text.specs.Copied.{IsCopy}
+use Rattle.vcd_copy.specs.Pieces.{Piece}
+use Rattle.vcd_copy.specs.Copied.{IsCopy}
 use Rattle.vcd_amend.specs.Amendment.{Amendment}
 use Rattle.vcd_amend.specs.AmendedCopy.{amendment_rules}
 use Rattle.vcd_amend.specs.AmendedText.{amended_text}
@@ -12,7 +12,7 @@ use Rattle.vcd_amend.specs.Retimed.{retimed_pieces, released_pieces}
 use Rattle.vcd_amend.specs.RetimedLaws.{pieces_after}
 use Rattle.vcd_amend.specs.RetimedCopy.{pieces_of_step, held_of_step, retimed_rules, IsAmendedAfterCuts}
 use Rattle.vcd_amend.proofs.amended.CopiedText.{copy_is_amended_text}
-use Rattle.vcd_text.proofs.shared.StatesOfPieces.{at_limit, item_at_limit}
+use Rattle.vcd_copy.proofs.shared.StatesOfPieces.{at_limit, item_at_limit}
 use Rattle.vcd_amend.proofs.retimed.Copies.{retimed_copy_is_copy_of_retimed}
 use Rattle.vcd_amend.proofs.amending.AnyLimit.{text_at}
 

@@ -8,7 +8,7 @@ use Rattle.std.proofs.lemmas.List.{append-nil}
 use Rattle.std.proofs.lemmas.List.Folds.{list_any-append}
 use Rattle.std.proofs.lemmas.List.Elements.{filter-append}
 use Rattle.std.proofs.lemmas.Slice.Eq.{bytes_eq-Decides}
-use Rattle.vcd_text.specs.Pieces.{Piece}
+use Rattle.vcd_copy.specs.Pieces.{Piece}
 use Rattle.vcd_amend.specs.Retimed.{change_key, counts_with}
 use Rattle.vcd_amend.specs.declared.amending.held_changes.HeldChange.{HeldChange}
 use Rattle.vcd_amend.specs.inside.amending.HeldChanges.{last_held, held_before, is_replaced, is_replaced_by}

@@ -6,7 +6,7 @@ use Rattle.std.specs.Prelude.{slice_index_or}
 use Rattle.std.specs.List.{list_all, join_with_byte}
 use Rattle.std.proofs.lemmas.Bool.{eq-eqb}
 use Rattle.vcd_text.specs.Words.{WordOnLine, words_of}
-use Rattle.vcd_text.specs.Pieces.{Piece}
+use Rattle.vcd_copy.specs.Pieces.{Piece}
 use Rattle.std.proofs.lemmas.Bool.{and_parts, not-true}
 use Rattle.std.proofs.lemmas.Bool.{ne_eqb, le-ltb}
 use Rattle.std.proofs.lemmas.List.{append-nil, length-append, length-drop, drop_more, get_or_past, length-map}
@@ -14,7 +14,7 @@ use Rattle.std.proofs.Math.Seq.{take-append_seam}
 use Rattle.vcd_core.specs.Word.{is_white_space}
 use Rattle.vcd_text.specs.Items.{spelling, variable, end_word}
 use Rattle.vcd_text.specs.inside.Words.{ends_before}
-use Rattle.vcd_text.specs.VariableWords.{IsVariable}
+use Rattle.vcd_copy.specs.VariableWords.{IsVariable}
 use Rattle.vcd_amend.specs.AmendedText.{with_words, next_word, exchanged_bytes}
 use Rattle.vcd_amend.specs.inside.amending.WordsInPlace.{word_in_place, words_in_place}
 

@@ -11,15 +11,15 @@ use Rattle.vcd_text.specs.Items.{Item, end_definitions, stamp, scalar}
 use Rattle.vcd_text.specs.Items.{vector, real_or_string, spelling}
 use Rattle.vcd_text.specs.Grammar.{ParseState, initial_state, state_after_item}
 use Rattle.vcd_text.specs.Text.{item_line}
-use Rattle.vcd_text.specs.Pieces.{Piece, state_of_pieces, stamp_line}
-use Rattle.vcd_text.specs.Copied.{CopyRules, IsCopy, copied, copied_piece, copied_pieces, may_be_amended}
-use Rattle.vcd_text.specs.Marks.{ends_declarations, mark_after, with_mark, marked_rules, bytes_of_mark, IsMark}
-use Rattle.vcd_text.specs.Marks.{IgnoresMark, IsMarkedFile}
-use Rattle.vcd_text.specs.MarkText.{mark_piece, piece_of_mark}
-use Rattle.vcd_text.specs.declared.marking.Mark.{Mark}
-use Rattle.vcd_text.proofs.marks.MarkWords.{every_mark_is_comment}
-use Rattle.vcd_text.proofs.marks.MarkedFiles.{ended, same_state, copy_of_marked}
-use Rattle.vcd_text.proofs.marks.MarkedCopies.{marked_copy_is_copy_of_marked}
+use Rattle.vcd_copy.specs.Pieces.{Piece, state_of_pieces, stamp_line}
+use Rattle.vcd_copy.specs.Copied.{CopyRules, IsCopy, copied, copied_piece, copied_pieces, may_be_amended}
+use Rattle.vcd_copy.specs.Marks.{ends_declarations, mark_after, with_mark, marked_rules, bytes_of_mark, IsMark}
+use Rattle.vcd_copy.specs.Marks.{IgnoresMark, IsMarkedFile}
+use Rattle.vcd_copy.specs.MarkText.{mark_piece, piece_of_mark}
+use Rattle.vcd_copy.specs.declared.marking.Mark.{Mark}
+use Rattle.vcd_copy.proofs.marks.MarkWords.{every_mark_is_comment}
+use Rattle.vcd_copy.proofs.marks.MarkedFiles.{ended, same_state, copy_of_marked}
+use Rattle.vcd_copy.proofs.marks.MarkedCopies.{marked_copy_is_copy_of_marked}
 use Rattle.vcd_amend.specs.Amendment.{Amendment}
 use Rattle.vcd_amend.specs.AmendedItems.{item_fate, inserted_items, still_none_yet, stands, is_left_out, is_exchanged}
 use Rattle.vcd_amend.specs.AmendedItems.{items_due_at}

@@ -16,8 +16,8 @@ use Rattle.vcd_text.specs.Grammar.{item_tests}
 use Rattle.vcd_core.specs.Tests.{◌unless◌, first_fault}
 use Rattle.vcd_core.specs.declared.capture.TheConstants.{END_LIMIT}
 use Rattle.vcd_text.specs.declared.fault.Fault.TheVariants.{BadTime, TimeBackwards}
-use Rattle.vcd_text.specs.Pieces.{Piece, state_of_pieces}
-use Rattle.vcd_text.specs.Copied.{IsNext, piece_items, value_code, real_or_string_code, may_be_amended}
+use Rattle.vcd_copy.specs.Pieces.{Piece, state_of_pieces}
+use Rattle.vcd_copy.specs.Copied.{IsNext, piece_items, value_code, real_or_string_code, may_be_amended}
 use Rattle.vcd_amend.specs.Amendment.{Amendment}
 use Rattle.vcd_amend.specs.AmendmentContents.{amendment_contents}
 use Rattle.vcd_amend.specs.AmendedItems.{ItemFate, item_fate, inserted_items, still_none_yet}
@@ -27,7 +27,7 @@ use Rattle.vcd_amend.specs.AmendedCopy.{none_yet_after}
 use Rattle.vcd_amend.specs.inside.amending.FileAmender.{IsAt, HasSeen}
 use Rattle.vcd_amend.specs.declared.amending.file_amender.FileAmender.{FileAmender}
 use Rattle.vcd_amend.proofs.amended.CopiedText.{none_yet_more}
-use Rattle.vcd_text.proofs.shared.StatesOfPieces.{last_allowed, one_more, at_any_limit}
+use Rattle.vcd_copy.proofs.shared.StatesOfPieces.{last_allowed, one_more, at_any_limit}
 
 -- the state before a piece, and whether nothing has been written yet
 abbrev pub before_state : List Piece → ParseState

@@ -18,7 +18,7 @@ use Rattle.vcd_core.specs.declared.bit.Bit.{Bit}
 use Rattle.vcd_text.specs.Items.{spelling}
 use Rattle.vcd_text.specs.Grammar.{ParseState, ValueChange, VariableDeclaration, is_skipped, variable_of}
 use Rattle.vcd_text.specs.Grammar.{value_changes_after, with_value_change}
-use Rattle.vcd_text.specs.Pieces.{Piece}
+use Rattle.vcd_copy.specs.Pieces.{Piece}
 use Rattle.vcd_text.specs.Text.{value_item}
 use Rattle.vcd_text.specs.inside.reading.CodeTargets.{code_target}
 use Rattle.vcd_amend.specs.Amendment.{AmendedCode, Amendment, is_used, changes_stand, needs_change, new_value}

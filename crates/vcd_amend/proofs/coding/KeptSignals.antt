@@ -15,8 +15,8 @@ use Rattle.vcd_core.specs.Contents.{SignalContents, Contents, signal_at, no_sign
 use Rattle.vcd_core.specs.declared.capture.Signal.{Signal}
 use Rattle.vcd_core.specs.CaptureContents.{signal_contents}
 use Rattle.vcd_text.specs.Grammar.{VariableDeclaration, kept_variables, is_skipped}
-use Rattle.vcd_journal.specs.Origins.{RiseWithin, ComeFrom}
-use Rattle.vcd_amend.specs.AmendedRun.{signal_from}
+use Rattle.vcd_core.specs.SignalOrigins.{RiseWithin, ComeFrom}
+use Rattle.vcd_core.specs.SignalOrigins.{signal_from}
 use Rattle.vcd_amend.specs.inside.coding.KeptSignals.{kept_signal, kept_signals}
 use Rattle.vcd_amend.specs.inside.coding.ChangedWaves.{left_contents}
 use Rattle.vcd_amend.proofs.shared.Lists.{at_item}

@@ -19,7 +19,7 @@ use Rattle.vcd_text.specs.Grammar.{ParseState, ValueChange, VariableDeclaration,
 use Rattle.vcd_text.specs.Grammar.{AllowsAll, state_after_item, state_after, initial_state, value_changes_after}
 use Rattle.vcd_text.specs.Grammar.{variable_of, kept_variables}
 use Rattle.vcd_text.specs.Meaning.{FileMeans, meaning}
-use Rattle.vcd_text.specs.Pieces.{Piece}
+use Rattle.vcd_copy.specs.Pieces.{Piece}
 use Rattle.vcd_text.proofs.shared.ItemTests.{has_declaration}
 use Rattle.vcd_text.proofs.part.FewSignals.{same_limit}
 use Rattle.vcd_text.proofs.read_back.Words.{is_unbroken, is_spelled}

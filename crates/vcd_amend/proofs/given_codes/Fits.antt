@@ -15,7 +15,7 @@ use Rattle.vcd_core.specs.Contents.{SignalContents}
 use Rattle.vcd_core.specs.Sound.{IsSoundSignal}
 use Rattle.vcd_text.specs.Grammar.{ParseState, VariableDeclaration, is_skipped, kept_variables}
 use Rattle.vcd_text.specs.Meaning.{declared_signal}
-use Rattle.vcd_text.proofs.pieces.Cuts.{all_parts}
+use Rattle.vcd_copy.proofs.pieces.Cuts.{all_parts}
 use Rattle.vcd_amend.specs.Amendment.{Amendment, AmendedCode, first_with_code, amended_code, amended_variables}
 use Rattle.vcd_amend.specs.AmendedMeaning.{AreApart, class_of, FitsAmendedCode}
 use Rattle.vcd_amend.specs.CodedAmendment.{CodedSignal, derived_variable, coded_amendment, signals_of_coded, HasWave}

@@ -15,7 +15,7 @@ use Rattle.vcd_core.specs.Sound.{IsSoundSignal}
 use Rattle.vcd_text.specs.Grammar.{VariableDeclaration, is_skipped, kept_variables, ParseState}
 use Rattle.vcd_text.specs.Meaning.{declared_signal, meaning}
 use Rattle.vcd_text.proofs.read_back.Declarations.{sound_is_kept}
-use Rattle.vcd_text.proofs.pieces.Cuts.{all_parts}
+use Rattle.vcd_copy.proofs.pieces.Cuts.{all_parts}
 use Rattle.vcd_amend.specs.Amendment.{Amendment, Fate, stays, fate_of, variable_left, flat_map_along, AmendedCode}
 use Rattle.vcd_amend.specs.Amendment.{is_changed, first_with_code, amended_code, amended_variables}
 use Rattle.vcd_amend.specs.CodedAmendment.{CodedSignal, fate_for, fates_for, derived_variable, coded_amendment}

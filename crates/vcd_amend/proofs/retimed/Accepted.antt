@@ -9,10 +9,10 @@ use Rattle.vcd_core.specs.declared.capture.TheConstants.{END_LIMIT}
 use Rattle.vcd_text.specs.Items.{Item, stamp}
 use Rattle.vcd_text.specs.Grammar.{ParseState, ValueChange, Allows, AllowsAll, state_after_item, state_after}
 use Rattle.vcd_amend.specs.AmendedItems.{stands, is_left_out, is_exchanged}
-use Rattle.vcd_text.specs.Pieces.{Piece}
+use Rattle.vcd_copy.specs.Pieces.{Piece}
 use Rattle.vcd_amend.specs.Retimed.{new_tick, ChangeKey, change_key, counts_with, code_of_key, lasts, held_with}
 use Rattle.vcd_amend.specs.Retimed.{is_past, has_kept_variable, released_pieces, retimed_stamp}
-use Rattle.vcd_text.specs.Pieces.{stamp_line}
+use Rattle.vcd_copy.specs.Pieces.{stamp_line}
 use Rattle.vcd_amend.specs.Retimed.{pieces_in_place, retimed_pieces}
 use Rattle.vcd_text.proofs.shared.ItemTests.{allows_stamp}
 use Rattle.vcd_text.proofs.shared.ItemsInTurn.{Reaches, reaches_none, reaches_one, reaches_both, reaches_same}

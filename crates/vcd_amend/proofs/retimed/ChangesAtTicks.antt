@@ -11,7 +11,7 @@ use Rattle.std.proofs.Math.Bool.{or-true}
 use Rattle.vcd_core.specs.Decimal.{number_of}
 use Rattle.vcd_text.specs.Items.{Item, stamp}
 use Rattle.vcd_text.specs.Grammar.{ParseState, Allows, AllowsAll, state_after_item}
-use Rattle.vcd_text.specs.Pieces.{Piece}
+use Rattle.vcd_copy.specs.Pieces.{Piece}
 use Rattle.vcd_amend.specs.Retimed.{ChangeKey, change_key, counts_with}
 use Rattle.vcd_amend.specs.RetimedLaws.{tick_after_item, changes_at_ticks, is_key_of, last_ones}
 use Rattle.vcd_amend.proofs.retimed.Ticks.{items_of, stamp_ticks}

@@ -4,8 +4,8 @@ use Rattle.std.proofs.lemmas.List.{append-nil}
 use Rattle.vcd_text.specs.Items.{Item, variable, end_definitions, stamp, scalar, vector, real_or_string, entry}
 use Rattle.vcd_text.specs.Items.{timescale, scope, upscope, dump_word, other}
 use Rattle.vcd_text.specs.Grammar.{ParseState, initial_state, state_after, state_after_item}
-use Rattle.vcd_text.specs.Pieces.{Piece, state_of_pieces}
-use Rattle.vcd_text.specs.Copied.{CopyRules, may_be_amended, copied_piece, copied_pieces}
+use Rattle.vcd_copy.specs.Pieces.{Piece, state_of_pieces}
+use Rattle.vcd_copy.specs.Copied.{CopyRules, may_be_amended, copied_piece, copied_pieces}
 use Rattle.vcd_amend.specs.Retimed.{retimed_pieces}
 use Rattle.vcd_amend.specs.RetimedCopy.{pieces_of_step, held_of_step, pieces_so_far, held_after, retimed_rules}
 use Rattle.vcd_amend.specs.RetimedCopy.{RetimedCopyIsCopyOfRetimed}

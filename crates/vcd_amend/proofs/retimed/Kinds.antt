@@ -9,7 +9,7 @@ use Rattle.vcd_text.specs.Items.{vector, real_or_string, dump_word, other}
 use Rattle.vcd_text.specs.Grammar.{ParseState, VariableDeclaration, ValueChange, Allows, AllowsAll, state_after_item}
 use Rattle.vcd_text.specs.Grammar.{state_after, is_skipped}
 use Rattle.vcd_amend.specs.AmendedItems.{stands, is_left_out}
-use Rattle.vcd_text.specs.Pieces.{Piece}
+use Rattle.vcd_copy.specs.Pieces.{Piece}
 use Rattle.std.specs.List.{list_any}
 use Rattle.vcd_amend.specs.Retimed.{ChangeKey, digits_key, text_key, change_key, code_of_key}
 use Rattle.vcd_amend.specs.Retimed.{counts_with, held_with, is_past, has_kept_variable}

@@ -13,7 +13,7 @@ use Rattle.vcd_text.specs.Items.{Item, stamp}
 use Rattle.std.proofs.lemmas.List.{append-nil}
 use Rattle.vcd_text.specs.Grammar.{VariableDeclaration, ParseState, Allows, AllowsAll, state_after_item, state_after}
 use Rattle.vcd_text.specs.Grammar.{initial_state}
-use Rattle.vcd_text.specs.Pieces.{Piece, state_of_pieces}
+use Rattle.vcd_copy.specs.Pieces.{Piece, state_of_pieces}
 use Rattle.vcd_amend.specs.Retimed.{new_tick, AreOldTicks, ChangeKey, change_key, counts_with}
 use Rattle.vcd_amend.specs.Retimed.{code_of_key, lasts, has_kept_variable}
 use Rattle.vcd_amend.specs.Retimed.{held_with, is_past, released_pieces, retimed_stamp, pieces_in_place, retimed_pieces}

@@ -18,7 +18,7 @@ use Rattle.vcd_text.specs.Items.{vector, real_or_string, dump_word, other}
 use Rattle.vcd_text.specs.Grammar.{VariableDeclaration, ValueChange, ParseState, AllowsAll, state_after_item}
 use Rattle.vcd_text.specs.Grammar.{state_after, is_skipped, value_changes_after, variable_of, initial_state}
 use Rattle.vcd_text.specs.Grammar.{kept_variables}
-use Rattle.vcd_text.specs.Pieces.{Piece, state_of_pieces}
+use Rattle.vcd_copy.specs.Pieces.{Piece, state_of_pieces}
 use Rattle.vcd_text.specs.inside.reading.Variables.{latest_value}
 use Rattle.vcd_text.proofs.shared.ItemsInTurn.{value_with}
 use Rattle.vcd_text.specs.Meaning.{declared_signal, changes_of_code, meaning}

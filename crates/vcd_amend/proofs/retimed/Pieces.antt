@@ -15,14 +15,14 @@ use Rattle.vcd_text.specs.Words.{words_of}
 use Rattle.vcd_text.specs.Items.{Item, stamp}
 use Rattle.vcd_text.specs.Grammar.{ParseState, AllowsAll, Allows, state_after_item, initial_state, word_texts}
 use Rattle.vcd_text.specs.Grammar.{is_skipped}
-use Rattle.vcd_text.specs.Pieces.{Piece, state_of_pieces}
+use Rattle.vcd_copy.specs.Pieces.{Piece, state_of_pieces}
 use Rattle.vcd_text.proofs.read_back.WholeText.{one_word, longer_unbroken, decimal_unbroken}
-use Rattle.vcd_text.proofs.pieces.Bytes.{texts_are, joined_words}
-use Rattle.vcd_text.proofs.shared.SpelledItems.{cut_spells_items}
+use Rattle.vcd_copy.proofs.pieces.Bytes.{texts_are, joined_words}
+use Rattle.vcd_copy.proofs.shared.SpelledItems.{cut_spells_items}
 use Rattle.vcd_amend.specs.AmendedItems.{stands, is_left_out, is_exchanged}
 use Rattle.vcd_amend.specs.Retimed.{new_tick, ChangeKey, change_key, counts_with, code_of_key, lasts, held_with}
 use Rattle.vcd_amend.specs.Retimed.{is_past, has_kept_variable, released_pieces, retimed_stamp}
-use Rattle.vcd_text.specs.Pieces.{stamp_line}
+use Rattle.vcd_copy.specs.Pieces.{stamp_line}
 use Rattle.vcd_amend.specs.Retimed.{pieces_in_place, retimed_pieces}
 use Rattle.vcd_amend.specs.RetimedLaws.{CanBeRetimed, MeansRetimed, pieces_after, RetimedFileMeansRetimedCapture}
 use Rattle.vcd_amend.specs.RetimedLaws.{bytes_of, RetimedTextMeansRetimedCapture, is_neither, OtherPiecesStand}

@@ -9,9 +9,9 @@ use Rattle.vcd_core.specs.declared.capture.TheConstants.{END_LIMIT}
 use Rattle.vcd_text.specs.Items.{Item, stamp}
 use Rattle.vcd_text.specs.Grammar.{ParseState, Allows, AllowsAll, state_after_item, initial_state}
 use Rattle.vcd_amend.specs.AmendedItems.{stands, is_left_out, is_exchanged}
-use Rattle.vcd_text.specs.Pieces.{Piece}
+use Rattle.vcd_copy.specs.Pieces.{Piece}
 use Rattle.vcd_amend.specs.Retimed.{new_tick, AreOldTicks, ChangeKey, held_with, is_past, released_pieces}
-use Rattle.vcd_text.specs.Pieces.{stamp_line}
+use Rattle.vcd_copy.specs.Pieces.{stamp_line}
 use Rattle.vcd_amend.specs.Retimed.{retimed_stamp, pieces_in_place, retimed_pieces}
 use Rattle.vcd_amend.specs.RetimedLaws.{is_stamp_of, stamp_count, StampsStand}
 use Rattle.vcd_text.proofs.read_back.Decimals.{number_of-decimal}

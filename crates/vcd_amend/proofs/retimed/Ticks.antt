@@ -7,7 +7,7 @@ use Rattle.vcd_core.specs.Decimal.{number_of, is_number}
 use Rattle.vcd_core.specs.declared.capture.TheConstants.{END_LIMIT}
 use Rattle.vcd_text.specs.Items.{Item, stamp}
 use Rattle.vcd_text.specs.Grammar.{ParseState, Allows}
-use Rattle.vcd_text.specs.Pieces.{Piece}
+use Rattle.vcd_copy.specs.Pieces.{Piece}
 use Rattle.vcd_text.proofs.shared.ItemTests.{has_tick}
 use Rattle.vcd_text.proofs.read_back.Decimals.{number_of-decimal}
 use Rattle.vcd_amend.specs.Retimed.{new_tick, AreOldTicks, retimed_stamp, pieces_in_place}

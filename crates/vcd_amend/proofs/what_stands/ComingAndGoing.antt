@@ -19,8 +19,8 @@ use Rattle.vcd_text.specs.Items.{vector, real_or_string, dump_word, other, spell
 use Rattle.vcd_text.specs.Grammar.{VariableDeclaration, ParseState, state_after, state_after_item, AllowsAll}
 use Rattle.vcd_text.specs.Grammar.{is_skipped, kept_variables}
 use Rattle.vcd_text.specs.Text.{value_item, with_stamp, item_line}
-use Rattle.vcd_text.specs.Pieces.{Piece}
-use Rattle.vcd_text.proofs.pieces.Bytes.{texts, texts_are}
+use Rattle.vcd_copy.specs.Pieces.{Piece}
+use Rattle.vcd_copy.proofs.pieces.Bytes.{texts, texts_are}
 use Rattle.vcd_amend.specs.Amendment.{Amendment, AmendedCode, amended_code, needs_change, new_value, Fate, stays}
 use Rattle.vcd_amend.specs.Amendment.{fate_of}
 use Rattle.vcd_amend.specs.AmendedItems.{file_has_change, due_items, items_due_at, items_due_now, added_items}

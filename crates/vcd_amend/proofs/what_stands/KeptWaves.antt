@@ -11,14 +11,14 @@ use Rattle.vcd_core.specs.Word.{is_one_of}
 use Rattle.vcd_text.specs.Items.{Item, entry, timescale, scope, upscope, variable, end_definitions, stamp, scalar}
 use Rattle.vcd_text.specs.Items.{vector, real_or_string, dump_word, other}
 use Rattle.vcd_text.specs.Grammar.{ParseState, VariableDeclaration, kept_variables, is_skipped, state_after_item}
-use Rattle.vcd_text.specs.Pieces.{Piece}
+use Rattle.vcd_copy.specs.Pieces.{Piece}
 use Rattle.vcd_amend.specs.Amendment.{AmendedCode, Amendment, first_with_code, amended_code}
 use Rattle.vcd_amend.specs.AmendedMeaning.{class_of, FitsFile, FitsAmendedCode}
 use Rattle.vcd_amend.specs.FreshCodes.{fresh_code}
 use Rattle.vcd_amend.specs.GivenCodes.{AreSignalsOf, IsFileState, amendment_for, held_codes, is_unchanged, new_waves}
 use Rattle.vcd_amend.specs.GivenCodes.{signals_left}
 use Rattle.vcd_amend.specs.WhatStands.{may_come, BecomesText, at_end, standing, going, exchanged}
-use Rattle.vcd_amend.specs.AmendOnBytes.{keeps_wave, may_be_put_in}
+use Rattle.vcd_amend.specs.WhatStands.{keeps_wave, may_be_put_in}
 use Rattle.vcd_amend.proofs.amended.OneCode.{itself, same_bytes}
 use Rattle.vcd_amend.proofs.shared.Lists.{found_has, found_is}
 use Rattle.vcd_amend.proofs.given_codes.CodedWaves.{taken_not_given}

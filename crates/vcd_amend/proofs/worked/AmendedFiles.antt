@@ -11,14 +11,14 @@ use Rattle.vcd_text.specs.Items.{Item, scope, upscope, variable, end_definitions
 use Rattle.vcd_text.specs.Letters.{short_form}
 use Rattle.vcd_text.specs.Grammar.{ParseState, initial_state, state_after, kept_variables}
 use Rattle.vcd_text.specs.Meaning.{meaning, changes_of_code}
-use Rattle.vcd_text.specs.Pieces.{Piece}
+use Rattle.vcd_copy.specs.Pieces.{Piece}
 use Rattle.vcd_text.specs.Text.{code_digits}
 use Rattle.vcd_amend.specs.Amendment.{Amendment, AmendedCode, stays, is_removed, is_changed}
 use Rattle.vcd_amend.specs.AmendedItems.{amended_items}
 use Rattle.vcd_amend.specs.AmendedMeaning.{amended_meaning}
 use Rattle.vcd_amend.specs.AmendedText.{amended_text}
 use Rattle.vcd_amend.specs.CodedAmendment.{CodedSignal}
-use Rattle.vcd_amend.specs.AmendOnBytes.{may_be_put_in}
+use Rattle.vcd_amend.specs.WhatStands.{may_be_put_in}
 use Rattle.vcd_amend.specs.GivenCodes.{coded_signals, coded_derived, coded_waves, changed_waves, amendment_for}
 
 -- ==== an amended file whose codes keep their changes where they can

@@ -8,15 +8,15 @@ ghost use Rattle.vcd_core.specs.Decimal.{number_of, is_number};
 ghost use Rattle.vcd_core.specs.Word.{is_skipped_kind};
 ghost use Rattle.vcd_text.specs.Items.{stamp};
 ghost use Rattle.vcd_text.specs.EmittedText.{Emits, EmitsMore};
-ghost use Rattle.vcd_text.specs.declared.copying.amender.InPlace.TheVariants as places;
-ghost use Rattle.vcd_text.specs.Pieces.{Piece, state_of_pieces};
-ghost use Rattle.vcd_text.specs.Copied.{copied_pieces};
-ghost use Rattle.vcd_text.specs.VariableWords.{IsVariable};
+ghost use Rattle.vcd_copy.specs.declared.copying.amender.InPlace.TheVariants as places;
+ghost use Rattle.vcd_copy.specs.Pieces.{Piece, state_of_pieces};
+ghost use Rattle.vcd_copy.specs.Copied.{copied_pieces};
+ghost use Rattle.vcd_copy.specs.VariableWords.{IsVariable};
 ghost use Rattle.vcd_text.specs.inside.reading.CodeTargets.{code_target};
 ghost use Rattle.vcd_amend.specs.AmendmentContents.{amendment_contents};
 ghost use Rattle.vcd_amend.specs.AmendedMeaning.{AreApart};
 ghost use Rattle.vcd_amend.specs.Retimed.{new_tick, change_key, counts_with};
-ghost use Rattle.vcd_text.specs.Pieces.{stamp_line};
+ghost use Rattle.vcd_copy.specs.Pieces.{stamp_line};
 ghost use Rattle.vcd_amend.specs.inside.amending.FileAmender.{HasSeen};
 ghost use Rattle.vcd_amend.specs.declared.amending.held_changes.HeldChange.{HeldChange as Change};
 ghost use Rattle.vcd_amend.specs.inside.amending.HeldChanges as spec;
@@ -33,8 +33,9 @@ use crate::cut_ticks::{CutTicks, CutWalk, RetimedTick};
 use itoa::Buffer;
 use std::alloc::Global;
 use std::mem::replace;
+use vcd_copy::{AmendableItem, Amender, InPlace, VariableWords};
 use vcd_core::{NoMemory, ScopeName, Sink, WIDTH_LIMIT};
-use vcd_text::{AmendableItem, Amender, CodeTargets, InPlace, Output, VariableWords};
+use vcd_text::{CodeTargets, Output};
 
 /// How many changes may be held before those that later ones replace are dropped.
 const FIRST_ROOM: usize = 1024;
@@ -544,7 +545,7 @@ pub fn is_event(kind: &[u8]) -> bool
 }
 
 impl<'a, W: Sink> Amender<W> for CutAmender<'a> {
-    ghost use Rattle.vcd_text.specs.Copied.{CopyRules};
+    ghost use Rattle.vcd_copy.specs.Copied.{CopyRules};
 
     ghost Given = { CopyRules };
 

@@ -8,11 +8,11 @@ ghost use Rattle.vcd_core.specs.Decimal.{is_number};
 ghost use Rattle.vcd_core.specs.declared.bit.Bit.{Bit as Letter};
 ghost use Rattle.vcd_core.specs.declared.capture.ScopeName.{ScopeName as Scope};
 ghost use Rattle.vcd_text.specs.EmittedText.{Emits, EmitsMore};
-ghost use Rattle.vcd_text.specs.declared.copying.amender.InPlace.TheVariants as places;
+ghost use Rattle.vcd_copy.specs.declared.copying.amender.InPlace.TheVariants as places;
 ghost use Rattle.vcd_text.specs.Grammar.{ParseState, initial_state, with_value_change};
-ghost use Rattle.vcd_text.specs.Pieces.{Piece};
+ghost use Rattle.vcd_copy.specs.Pieces.{Piece};
 ghost use Rattle.vcd_text.specs.Text.{item_line};
-ghost use Rattle.vcd_text.specs.VariableWords.{IsVariable};
+ghost use Rattle.vcd_copy.specs.VariableWords.{IsVariable};
 ghost use Rattle.vcd_amend.specs.AmendedCopy.{amendment_rules};
 ghost use Rattle.vcd_amend.specs.AmendedItems.{change_fate, real_fate, items_due_until, leaves_out};
 ghost use Rattle.vcd_amend.specs.AmendedItems.{stands, is_left_out, declaration_fate};
@@ -38,11 +38,9 @@ use super::value_changes::{
 use super::variable_writing::{write_added, write_changed};
 use crate::amendment::{AddedVariable, Amendment, Fate};
 use std::alloc::Global;
+use vcd_copy::{AmendableItem, Amender, InPlace, VariableWords};
 use vcd_core::{NoMemory, ScopeName, Sink, Word};
-use vcd_text::{
-    AmendableItem, Amender, CodeTargets, InPlace, Output, VariableWords, write_bytes,
-    write_upscopes,
-};
+use vcd_text::{CodeTargets, Output, write_bytes, write_upscopes};
 
 /// What an amendment does to a file, and how far the file is.
 #[derive(Drop)]
@@ -422,7 +420,7 @@ pub fn write_if<W: Sink>(output: &mut Output<W>, stands: bool, space: &[u8], bod
 }
 
 impl<'a, W: Sink> Amender<W> for FileAmender<'a> {
-    ghost use Rattle.vcd_text.specs.Copied.{CopyRules};
+    ghost use Rattle.vcd_copy.specs.Copied.{CopyRules};
 
     ghost Given = { CopyRules };
 

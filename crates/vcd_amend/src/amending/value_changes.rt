@@ -3,7 +3,7 @@
 ghost use Rattle.std.specs.Prelude.{◌≡◌, ◌<◌, ◌==◌, ◌||◌, ◌&&◌, ◌++◌, ℕ, length, not, true};
 ghost use Rattle.std.specs.Prelude.{slice_index_or, map, false, if◌then◌else◌};
 ghost use Rattle.vcd_text.specs.EmittedText.{Emits};
-ghost use Rattle.vcd_text.specs.declared.copying.amender.InPlace.TheVariants as places;
+ghost use Rattle.vcd_copy.specs.declared.copying.amender.InPlace.TheVariants as places;
 ghost use Rattle.vcd_amend.specs.Amendment.{changes_stand, needs_change};
 ghost use Rattle.vcd_amend.specs.AmendmentContents.{code_contents};
 ghost use Rattle.vcd_amend.specs.inside.amending.CodeProgress.{no_progress, noted_change};
@@ -15,8 +15,9 @@ use super::code_progress::{CodeProgress, note_change};
 use super::due_writing::write_due;
 use super::moments::{ChangeCounts, Moment, moment_at};
 use crate::amendment::AmendedCode;
+use vcd_copy::InPlace;
 use vcd_core::Sink;
-use vcd_text::{InPlace, Output, write_bytes};
+use vcd_text::{Output, write_bytes};
 
 /// The amended code at `index`, at `tick`.
 pub fn moment_in(codes: &[AmendedCode], counts: &[ChangeCounts], index: usize, tick: u64) -> Moment

@@ -8,7 +8,7 @@ ghost use Rattle.vcd_text.specs.EmittedText.{Emits};
 ghost use Rattle.vcd_text.specs.Grammar.{word_texts};
 ghost use Rattle.vcd_text.specs.Items.{variable};
 ghost use Rattle.vcd_text.specs.Text.{item_line};
-ghost use Rattle.vcd_text.specs.VariableWords.{IsVariable};
+ghost use Rattle.vcd_copy.specs.VariableWords.{IsVariable};
 ghost use Rattle.vcd_text.specs.Words.{words_of};
 ghost use Rattle.vcd_amend.specs.AmendedItems.{added_items};
 ghost use Rattle.vcd_amend.specs.AmendedText.{exchanged_bytes, with_words};
@@ -18,10 +18,10 @@ ghost use Rattle.vcd_amend.specs.inside.amending.WordsInPlace.{words_in_place};
 
 use crate::amendment::AddedVariable;
 use itoa::Buffer;
+use vcd_copy::VariableWords;
 use vcd_core::{Sink, Word};
 use vcd_text::{
-    Output, VariableWords, Words, write_byte, write_bytes, write_declaration, write_scopes,
-    write_upscopes,
+    Output, Words, write_byte, write_bytes, write_declaration, write_scopes, write_upscopes,
 };
 
 /// Writes the lines of variables that are added, each in its scopes.

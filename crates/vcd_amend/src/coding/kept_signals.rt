@@ -6,9 +6,9 @@ ghost use Rattle.std.specs.List.{range_with_len};
 ghost use Rattle.vcd_core.specs.CaptureContents.{contents, signal_contents};
 ghost use Rattle.vcd_core.specs.Contents.{signal_at};
 ghost use Rattle.vcd_text.specs.Grammar.{kept_variables};
-ghost use Rattle.vcd_journal.specs.Origins.{RiseWithin, ComeFrom};
+ghost use Rattle.vcd_core.specs.SignalOrigins.{RiseWithin, ComeFrom};
 ghost use Rattle.vcd_amend.specs.DeclaredVariables.{declaration_of_variable};
-ghost use Rattle.vcd_amend.specs.AmendedRun as run;
+ghost use Rattle.vcd_core.specs.SignalOrigins as by_origin;
 ghost use Rattle.vcd_amend.specs.GivenCodes as given;
 ghost use Rattle.vcd_amend.specs.inside.coding.KeptSignals as spec;
 ghost use Rattle.vcd_amend.specs.inside.coding.ChangedWaves.{left_contents, kept_contents};
@@ -33,7 +33,7 @@ pub fn kept_signals<'a>(
     ensures { IfOk result (λ kept. map kept_contents kept.items
         ≡ spec.kept_signals (kept_variables (map declaration_of_variable declared.now))
         (contents first.now).signals
-        (map (λ k. run.signal_from k origins.now (contents last.now).signals)
+        (map (λ k. by_origin.signal_from k origins.now (contents last.now).signals)
         (range_with_len 0 (length (contents first.now).signals)))) }
 {
     let mut kept = Vec::new(alloc);
@@ -59,7 +59,7 @@ fn kept_at<'a>(
     requires come { ComeFrom (contents first.now) origins.now (contents last.now).signals }
     ensures { kept_contents result ≡ spec.kept_signal (declaration_of_variable variable.now)
         (signal_at (contents first.now) position).changes
-        (run.signal_from position origins.now (contents last.now).signals) }
+        (by_origin.signal_from position origins.now (contents last.now).signals) }
 {
     let left = signal_from(position, origins, last.signals());
     kept_signal(variable, &first.signals()[position].wave, left)
@@ -106,7 +106,7 @@ fn signal_from<'a>(position: usize, origins: &[usize], signals: &'a [Signal]) ->
     requires rising { (count : ℕ) × RiseWithin 0 count origins.now }
     requires within { length origins.now ≤ length signals.now }
     ensures { left_contents result
-        ≡ run.signal_from position origins.now (map signal_contents signals.now) }
+        ≡ by_origin.signal_from position origins.now (map signal_contents signals.now) }
 {
     let index = origins.partition_point(|origin| *origin < position);
     match origins.get(index) {

@@ -5,16 +5,17 @@ ghost use Rattle.vcd_core.specs.Decimal.{is_number};
 ghost use Rattle.vcd_text.specs.Words.{words_of};
 ghost use Rattle.vcd_text.specs.Items.{end_word};
 ghost use Rattle.vcd_text.specs.Grammar.{word_texts};
-ghost use Rattle.vcd_text.specs.VariableWords.{IsVariable};
+ghost use Rattle.vcd_copy.specs.VariableWords.{IsVariable};
 ghost use Rattle.vcd_amend.specs.inside.declarations.Collector.{HasCollected, IsDeclared};
 
 use super::DeclaredVariable;
 use super::variable_size::VariableSize;
 use std::alloc::Global;
+use vcd_copy::{AmendableItem, Amender, InPlace, VariableWords};
 use vcd_core::{
     NameWords, NoMemory, ScopeName, ScopePath, Seq, Sink, Word, copy_scopes, copy_word,
 };
-use vcd_text::{AmendableItem, Amender, InPlace, Output, VariableWords, Words};
+use vcd_text::{Output, Words};
 
 /// The variables that a file has declared so far.
 #[derive(Drop)]

@@ -14,7 +14,6 @@ use Rattle.vcd_decode.specs.declared.i2c_bus.events.BusEvent.TheVariants as even
 use Rattle.vcd_decode.specs.Lines.{annotation}
 use Rattle.vcd_decode.specs.Groups.{groups_of}
 use Rattle.vcd_decode.specs.I2c.{nines_annotations, bits_until, shown_address, annotations_of_events, i2c_annotations}
-use Rattle.vcd_decode.specs.BusDoubts.{bits_after_stops, doubtful_acknowledges, ends_in_transfer, joint_edges}
 use Rattle.vcd_decode.specs.declared.i2c_bus.events.BusLevels.{BusLevels}
 use Rattle.vcd_decode.specs.BusEvents.{bus_events}
 use Rattle.vcd_decode.specs.SentLevels.{data_levels}
@@ -27,12 +26,12 @@ abbrev at : ℕ → Kind → Annotation
 at tick kind = annotation tick tick kind
 
 -- bits from a tick on, one a tick
-abbrev bits : ℕ → List Bit → List BusEvent
+abbrev pub bits : ℕ → List Bit → List BusEvent
 bits tick [] = []
 bits tick (level ∷ levels) = events.Bit (record { tick = tick; level = level }) ∷ bits (tick + 1) levels
 
 -- a byte that is acknowledged
-abbrev byte : ℕ → ℕ → List BusEvent
+abbrev pub byte : ℕ → ℕ → List BusEvent
 byte tick n = bits tick (map (λ k. if n / 2 ^ k % 2 == 1 then One else Zero) (7 ∷ 6 ∷ 5 ∷ 4 ∷ 3 ∷ 2 ∷ 1 ∷ 0 ∷ [])
     ++ Zero ∷ [])
 
@@ -99,37 +98,6 @@ read_of_unknown : annotations_of_events false None
     ∷ at 19 RepeatedStart ∷ annotation 20 27 (AddressHigh 2 Read) ∷ at 28 Ack ∷ []
 unfolding groups_of nines_annotations bits_until shown_address annotations_of_events
 read_of_unknown = refl
-
--- ==== worked cases: what may be wrong with these annotations
-
--- a START was lost: two bytes, and the rise of SCL before the STOP. Bits before the first condition and after the
--- last do not count
-lost_start : bits_after_stops (bits 0 (One ∷ []) ++ events.Stop 1 ∷ byte 2 7 ++ byte 11 9 ++ bits 20 (Zero ∷ [])
-    ++ events.Stop 21 ∷ events.Start 22 ∷ byte 23 7 ++ events.Stop 32 ∷ byte 33 7) ≡ 19
-unfolding bits_after_stops bits_until
-lost_start = refl
-
--- before a condition after eight bits, or after seventeen, SCL rises a ninth or eighteenth time, and after a whole byte
--- a tenth. Conditions in turn end no bits, and nothing ends those at the end
-cut_acknowledges : doubtful_acknowledges (events.Start 0 ∷ byte 1 7 ++ events.Stop 10 ∷ events.Start 11 ∷ byte 12 7
-    ++ byte 21 7 ++ events.Start 30 ∷ byte 31 7 ++ bits 40 (Zero ∷ []) ++ events.Stop 41 ∷ byte 42 7
-    ++ events.Start 51 ∷ events.Start 52 ∷ byte 53 7) ≡ 2
-unfolding doubtful_acknowledges bits_until
-cut_acknowledges = refl
-
-with_stop : ends_in_transfer (events.Start 0 ∷ byte 1 7 ++ events.Stop 10 ∷ bits 11 (One ∷ [])) ≡ false
-unfolding ends_in_transfer
-with_stop = refl
-
-without_stop : ends_in_transfer (events.Start 0 ∷ events.Stop 1 ∷ events.Start 2 ∷ bits 3 (One ∷ [])) ≡ true
-unfolding ends_in_transfer
-without_stop = refl
-
--- at 2, 3 and 7 both change: not at 4, where SDA is still, nor at 5 and 6, where SCL is x before or after
-joint : joint_edges (λ t. get_or (One ∷ One ∷ Zero ∷ One ∷ Zero ∷ X ∷ Z ∷ Zero ∷ []) t X)
-    (λ t. get_or (One ∷ Zero ∷ One ∷ Zero ∷ Zero ∷ One ∷ Zero ∷ Z ∷ []) t X) 7 ≡ 3
-unfolding joint_edges
-joint = refl
 
 -- ==== worked cases: I2C messages that are sent
 

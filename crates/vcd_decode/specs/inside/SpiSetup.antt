@@ -14,3 +14,13 @@ abbrev pub samples_at : ℕ → Option Bit → Option Bit → Bool
 samples_at mode before at =
     if samples_rising_edge mode then is_present_and is_zero before && is_present_and is_one at
     else is_present_and is_one before && is_present_and is_zero at
+
+-- whether a clock is present and at the level to which the mode's sampling edge goes
+abbrev pub shows_sampled_level : (mode : ℕ) → Option Bit → Bool
+shows_sampled_level mode clk =
+    if samples_rising_edge mode then is_present_and is_one clk else is_present_and is_zero clk
+
+-- whether it is present and at the other level
+abbrev pub shows_waiting_level : (mode : ℕ) → Option Bit → Bool
+shows_waiting_level mode clk =
+    if samples_rising_edge mode then is_present_and is_zero clk else is_present_and is_one clk

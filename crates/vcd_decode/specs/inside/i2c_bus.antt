@@ -1,5 +1,3 @@
 -- Definitions that `i2c_bus` and its proofs cite.
 pub mod BusWalk
 pub mod Events
-pub mod DoubtsSoFar
-pub mod JointEdges

@@ -78,7 +78,7 @@ fn take_line_edge(
 }
 
 /// The event at an edge, if there is one.
-pub(super) fn edge_event(edge: BitEdge) -> Option<BusEvent>
+pub fn edge_event(edge: BitEdge) -> Option<BusEvent>
     requires { walk.IsBusEdge edge }
     ensures { result ≡ walk.edge_event edge }
 {
@@ -87,7 +87,7 @@ pub(super) fn edge_event(edge: BitEdge) -> Option<BusEvent>
 }
 
 /// The levels of the first two of these lines.
-pub(super) fn levels_of(bits: [Option<Bit>; 4]) -> BusLevels
+pub fn levels_of(bits: [Option<Bit>; 4]) -> BusLevels
     requires { walk.HasBothLines bits }
     ensures { result ≡ walk.levels_of bits }
 {

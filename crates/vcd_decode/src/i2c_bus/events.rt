@@ -9,28 +9,28 @@ use vcd_core::Bit;
 
 /// The levels of the two lines at one tick.
 #[derive(Clone, Copy)]
-pub(super) struct BusLevels {
-    pub(super) scl: Bit,
-    pub(super) sda: Bit,
+pub struct BusLevels {
+    pub scl: Bit,
+    pub sda: Bit,
 }
 
 /// A bit: the tick at which SCL rises, and the level of SDA there.
 #[derive(Clone, Copy)]
-pub(super) struct BusBit {
-    pub(super) tick: u64,
-    pub(super) level: Bit,
+pub struct BusBit {
+    pub tick: u64,
+    pub level: Bit,
 }
 
 /// An event on the lines at a tick.
 #[derive(Clone, Copy)]
-pub(super) enum BusEvent {
+pub enum BusEvent {
     Start(u64),
     Stop(u64),
     Bit(BusBit),
 }
 
 /// Whether a level is high: 1, or z, where a resistor pulls the line up. It is low if it is 0.
-pub(super) fn is_line_high(level: Bit) -> bool
+pub fn is_line_high(level: Bit) -> bool
     ensures { result ≡ bus_spec.is_line_high level }
 {
     matches!(level, Bit::One | Bit::Z)

@@ -1,4 +1,4 @@
--- Worked cases of effects on small captures: the laws, how many changes are touched, and other waves.
+-- Worked cases of effects on small captures: the laws, and how many changes are touched.
 use Rattle.std.proofs.Common.{◌≡◌, refl}
 use Rattle.std.specs.Prelude.{ℕ, List, [], ◌∷◌, Some, None, codes, pos, negsuc}
 use Rattle.std.specs.Borrow.{Bor}
@@ -11,7 +11,6 @@ use Rattle.vcd_edit.specs.AppliedRecords.{with_pieces, apply_record}
 use Rattle.vcd_edit.specs.Effect.{effect, run_start, run_end, steady_value}
 use Rattle.vcd_edit.specs.Touched.{touched_count, touched_from}
 use Rattle.vcd_edit.specs.TouchedByEdit.{touched_by_edit}
-use Rattle.vcd_edit.specs.OtherWaves.{OtherChanges, with_others, waves_read, others_after}
 use Rattle.vcd_edit.proofs.worked.Records.{from, wire, capture, alone}
 
 -- ==== worked cases: the laws of the edits on small captures
@@ -109,33 +108,3 @@ touched_by_others : (touched_by_edit (Remove 1) three_signals ≡ 1)
     × (touched_by_edit (Derive (lent (codes "n")) (Xor 0 1)) two_signals ≡ 0)
 unfolding effect changes_from value_from touched_count touched_from
 touched_by_others = (refl, refl, refl)
-
--- ==== worked cases: which waves an edit reads, and what it makes of a capture with other waves
-
--- a name is given, a signal removed and time cut out without any wave
-what_is_read : (waves_read (Rename 2 (lent (codes "d"))) ≡ []) × (waves_read (Remove 2) ≡ [])
-    × (waves_read (Cut 1 4) ≡ []) × (waves_read (Shift 2 (pos 1)) ≡ 2 ∷ [])
-    × (waves_read (Force 2 0 1 (One ∷ [])) ≡ 2 ∷ []) × (waves_read (Derive (lent (codes "d")) (And 2 0)) ≡ 2 ∷ 0 ∷ [])
-    × (waves_read (Derive (lent (codes "d")) (BitOf 1 7)) ≡ 1 ∷ [])
-what_is_read = (refl, refl, refl, refl, refl, refl, refl)
-
--- a has no change in place of its own, b has its own
-abbrev a_without : List OtherChanges
-a_without = Some [] ∷ None ∷ []
-
--- the others go with a
-without_a : (effect (Remove 0) (with_others a_without three_signals)
-    ≡ with_others (None ∷ []) (effect (Remove 0) three_signals))
-    × (others_after (Remove 0) three_signals a_without ≡ None ∷ [])
-unfolding effect
-without_a = (refl, refl)
-
--- a has other changes, which a cut moves as it moves those of b
-abbrev a_other : List OtherChanges
-a_other = Some (from 1 One ∷ from 6 Zero ∷ []) ∷ []
-
-cut_with_other : (others_after (Cut 2 4) two_signals a_other ≡ Some (from 1 One ∷ from 4 Zero ∷ []) ∷ [])
-    × (effect (Cut 2 4) (with_others a_other two_signals)
-    ≡ with_others (Some (from 1 One ∷ from 4 Zero ∷ []) ∷ []) (effect (Cut 2 4) two_signals))
-unfolding effect value_from changes_from
-cut_with_other = (refl, refl)

@@ -6,8 +6,8 @@ use Rattle.std.proofs.lemmas.Bool.{and_parts}
 use Rattle.vcd_text.specs.Items.{Item, entry, timescale, scope, upscope, variable, end_definitions, stamp, scalar}
 use Rattle.vcd_text.specs.Items.{vector, real_or_string, dump_word, other}
 use Rattle.vcd_text.specs.Grammar.{ParseState, fits, state_after_item}
-use Rattle.vcd_text.specs.Pieces.{Piece}
-use Rattle.vcd_text.specs.Copied.{may_be_amended}
+use Rattle.vcd_copy.specs.Pieces.{Piece}
+use Rattle.vcd_copy.specs.Copied.{may_be_amended}
 use Rattle.vcd_text.specs.declared.reading.choice.TickRange.{TickRange}
 use Rattle.vcd_part.specs.declared.request.Request.{Request}
 use Rattle.vcd_part.specs.declared.request.Refusal.{Refusal}

@@ -2,8 +2,8 @@
 use Rattle.std.proofs.Common.{◌≡◌, ◌+◌, ℕ, Bool, true, false, List, [], ◌∷◌, ◌++◌, refl, if◌then◌else◌}
 use Rattle.vcd_text.specs.Items.{Item, entry, timescale, scope, upscope, variable, end_definitions, stamp, scalar}
 use Rattle.vcd_text.specs.Items.{vector, real_or_string, dump_word, other}
-use Rattle.vcd_text.specs.Pieces.{Piece}
-use Rattle.vcd_text.specs.Copied.{may_be_amended, is_comment_or_other}
+use Rattle.vcd_copy.specs.Pieces.{Piece}
+use Rattle.vcd_copy.specs.Copied.{may_be_amended, is_comment_or_other}
 use Rattle.vcd_part.specs.PartPieces.{bounded_count}
 use Rattle.vcd_part.specs.WrittenPart.{comment_count}
 use Rattle.vcd_part.proofs.choice.NotedVariables.{one_counted, not_counted}

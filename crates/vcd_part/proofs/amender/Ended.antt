@@ -7,20 +7,20 @@ use Rattle.std.proofs.lemmas.List.{append-nil}
 use Rattle.vcd_core.specs.declared.capture.Timescale.{Timescale}
 use Rattle.vcd_text.specs.Items.{end_definitions}
 use Rattle.vcd_text.specs.Grammar.{ParseState, initial_state, Allows, state_after_item}
-use Rattle.vcd_text.specs.Pieces.{Piece, state_of_pieces}
-use Rattle.vcd_text.specs.Copied.{IsNext, may_be_amended}
+use Rattle.vcd_copy.specs.Pieces.{Piece, state_of_pieces}
+use Rattle.vcd_copy.specs.Copied.{IsNext, may_be_amended}
 use Rattle.vcd_text.specs.declared.reading.choice.TickRange.{TickRange}
 use Rattle.vcd_part.specs.declared.request.Request.{Request}
 use Rattle.vcd_part.specs.declared.request.Refusal.{Refusal}
 use Rattle.vcd_part.specs.declared.amender.PartAmender.{PartAmender}
 use Rattle.vcd_part.specs.Requests.{decide}
 use Rattle.vcd_part.specs.PartPieces.{pieces_at_end, ended_pieces, first_pieces, is_up_to_first}
-use Rattle.vcd_text.specs.Pieces.{piece_bytes}
+use Rattle.vcd_copy.specs.Pieces.{piece_bytes}
 use Rattle.vcd_part.specs.PartPieces.{pieces_of_step, ended_in_part, declaration_in_part, comment_piece}
 use Rattle.vcd_part.specs.PartPieces.{kept_count, all_count, is_change_of}
 use Rattle.vcd_part.specs.inside.CodeUses.{HoldLast}
 use Rattle.vcd_part.specs.inside.PartAmender.{Knows, window_of, refusal_of, is_first_due}
-use Rattle.vcd_text.proofs.shared.StatesOfPieces.{at_limit, at_any_limit}
+use Rattle.vcd_copy.proofs.shared.StatesOfPieces.{at_limit, at_any_limit}
 use Rattle.vcd_part.proofs.amender.States.{next_allowed, before_allowed, next_some, end_before_body}
 use Rattle.vcd_part.proofs.amender.LastChanges.{all_more, hold_more, hold_declarations}
 use Rattle.vcd_part.proofs.amender.Steps.{seen_more}

@@ -7,20 +7,20 @@ use Rattle.vcd_core.specs.declared.capture.ScopeName.{ScopeName}
 use Rattle.vcd_text.specs.Words.{words_of}
 use Rattle.vcd_text.specs.Items.{Item}
 use Rattle.vcd_text.specs.Grammar.{ParseState, VariableDeclaration, Allows, state_after_item, word_texts}
-use Rattle.vcd_text.specs.Pieces.{Piece, state_of_pieces}
-use Rattle.vcd_text.specs.Copied.{IsTakenNext, may_be_amended}
-use Rattle.vcd_text.specs.declared.copying.amender.AmendableItem.TheVariants as shown
+use Rattle.vcd_copy.specs.Pieces.{Piece, state_of_pieces}
+use Rattle.vcd_copy.specs.Copied.{IsTakenNext, may_be_amended}
+use Rattle.vcd_copy.specs.declared.copying.amender.AmendableItem.TheVariants as shown
 use Rattle.vcd_part.specs.declared.request.Request.{Request}
 use Rattle.vcd_part.specs.declared.amender.PartAmender.{PartAmender}
 use Rattle.vcd_part.specs.declared.choice.VariableChoice.{VariableChoice}
 use Rattle.vcd_part.specs.declared.code_uses.CodeUses.{CodeUses}
 use Rattle.vcd_part.specs.Requests.{keeps, decide}
 use Rattle.vcd_part.specs.PartPieces.{pieces_of_step, declaration_in_part}
-use Rattle.vcd_text.specs.Pieces.{piece_bytes}
+use Rattle.vcd_copy.specs.Pieces.{piece_bytes}
 use Rattle.vcd_part.specs.inside.Choice.{HasNoted}
 use Rattle.vcd_part.specs.inside.CodeUses.{AreUses, HoldLast}
 use Rattle.vcd_part.specs.inside.PartAmender.{Knows, window_of, refusal_of}
-use Rattle.vcd_text.proofs.shared.StatesOfPieces.{at_limit, at_any_limit}
+use Rattle.vcd_copy.proofs.shared.StatesOfPieces.{at_limit, at_any_limit}
 use Rattle.vcd_text.proofs.shared.DeclaringWords.{declared_in}
 use Rattle.vcd_part.proofs.amender.States.{VariableItem, variable_item, next_allowed, next_some, variable_before_body}
 use Rattle.vcd_part.proofs.amender.LastChanges.{all_more}

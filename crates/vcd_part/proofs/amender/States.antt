@@ -12,11 +12,11 @@ use Rattle.vcd_text.specs.Items.{Item, entry, timescale, scope, upscope, variabl
 use Rattle.vcd_text.specs.Items.{vector, real_or_string, dump_word, other, spelling}
 use Rattle.vcd_text.specs.Grammar.{ParseState, initial_state, Allows, AllowsAll, item_tests}
 use Rattle.vcd_text.specs.Grammar.{state_after, state_after_item, declaration_of, word_texts}
-use Rattle.vcd_text.specs.Pieces.{Piece, state_of_pieces}
-use Rattle.vcd_text.specs.Copied.{IsNext, piece_items}
-use Rattle.vcd_text.specs.VariableWords.{IsVariable}
-use Rattle.vcd_text.proofs.pieces.Cuts.{spelling_some}
-use Rattle.vcd_text.proofs.shared.StatesOfPieces.{last_allowed, first_allowed, at_limit, at_any_limit}
+use Rattle.vcd_copy.specs.Pieces.{Piece, state_of_pieces}
+use Rattle.vcd_copy.specs.Copied.{IsNext, piece_items}
+use Rattle.vcd_copy.specs.VariableWords.{IsVariable}
+use Rattle.vcd_copy.proofs.pieces.Cuts.{spelling_some}
+use Rattle.vcd_copy.proofs.shared.StatesOfPieces.{last_allowed, first_allowed, at_limit, at_any_limit}
 use Rattle.vcd_text.proofs.shared.DeclaringWords.{declared_in, declares}
 
 -- ---- what comes next

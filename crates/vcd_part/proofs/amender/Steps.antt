@@ -7,8 +7,8 @@ use Rattle.vcd_core.specs.Decimal.{number_of}
 use Rattle.vcd_text.specs.Items.{Item, entry, timescale, scope, upscope, variable, end_definitions, stamp, scalar}
 use Rattle.vcd_text.specs.Items.{vector, real_or_string, dump_word, other}
 use Rattle.vcd_text.specs.Grammar.{ParseState, VariableDeclaration, Allows, state_after_item}
-use Rattle.vcd_text.specs.Pieces.{Piece, state_of_pieces}
-use Rattle.vcd_text.specs.Copied.{IsNext, may_be_amended}
+use Rattle.vcd_copy.specs.Pieces.{Piece, state_of_pieces}
+use Rattle.vcd_copy.specs.Copied.{IsNext, may_be_amended}
 use Rattle.vcd_text.specs.declared.reading.choice.TickRange.{TickRange}
 use Rattle.vcd_part.specs.declared.request.Request.{Request}
 use Rattle.vcd_part.specs.declared.request.Refusal.{Refusal}
@@ -19,7 +19,7 @@ use Rattle.vcd_part.specs.PartPieces.{is_up_to_first, is_change_of}
 use Rattle.vcd_part.specs.inside.Choice.{HasNoted}
 use Rattle.vcd_part.specs.inside.CodeUses.{AreUses, HoldLast}
 use Rattle.vcd_part.specs.inside.PartAmender.{IsAt, Knows, window_of, refusal_of}
-use Rattle.vcd_text.proofs.shared.StatesOfPieces.{one_more, at_limit}
+use Rattle.vcd_copy.proofs.shared.StatesOfPieces.{one_more, at_limit}
 use Rattle.vcd_part.proofs.amender.States.{timescale_before_body, later_stamp, next_allowed, next_some}
 use Rattle.vcd_part.proofs.amender.LastChanges.{all_more, hold_more}
 

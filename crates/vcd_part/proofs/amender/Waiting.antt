@@ -10,8 +10,8 @@ use Rattle.vcd_text.specs.Items.{Item, entry, timescale, scope, upscope, variabl
 use Rattle.vcd_text.specs.Items.{vector, real_or_string, dump_word, other}
 use Rattle.vcd_text.specs.Grammar.{ParseState, VariableDeclaration, Allows, AllowsAll, state_after}
 use Rattle.vcd_text.specs.Grammar.{declaration_of}
-use Rattle.vcd_text.specs.Pieces.{Piece, piece_bytes, state_of_pieces, stamp_line}
-use Rattle.vcd_text.specs.Copied.{IsNext, piece_items, may_be_amended}
+use Rattle.vcd_copy.specs.Pieces.{Piece, piece_bytes, state_of_pieces, stamp_line}
+use Rattle.vcd_copy.specs.Copied.{IsNext, piece_items, may_be_amended}
 use Rattle.vcd_text.specs.declared.reading.choice.TickRange.{TickRange}
 use Rattle.vcd_part.specs.declared.amender.PartAmender.{PartAmender}
 use Rattle.vcd_part.specs.declared.request.Refusal.{Refusal}
@@ -23,7 +23,7 @@ use Rattle.vcd_part.specs.PartPieces.{kept_count, all_count}
 use Rattle.vcd_part.specs.WrittenPart.{comment_count}
 use Rattle.vcd_part.specs.inside.PartAmender.{HasSeen, Knows, IsAt}
 use Rattle.vcd_part.specs.inside.PartCopy.{waiting_after, settled_after, waiting_stamp, waiting_from}
-use Rattle.vcd_text.proofs.shared.StatesOfPieces.{one_more, at_any_limit}
+use Rattle.vcd_copy.proofs.shared.StatesOfPieces.{one_more, at_any_limit}
 use Rattle.vcd_part.proofs.amender.States.{next_allowed, before_allowed}
 use Rattle.vcd_part.proofs.amender.LastChanges.{still_out}
 use Rattle.vcd_part.proofs.amender.Decided.{pieces_in_declarations}

@@ -4,15 +4,15 @@ use Rattle.std.proofs.Common.{refl, sym, ap, Some, None, if◌then◌else◌, na
 use Rattle.std.specs.Prelude.{Result, Ok, Err, OnErr}
 use Rattle.std.proofs.lemmas.Bool.{false≢true}
 use Rattle.vcd_text.specs.Grammar.{ParseState, state_after_item}
-use Rattle.vcd_text.specs.Pieces.{Piece, state_of_pieces}
-use Rattle.vcd_text.specs.Copied.{IsNext}
+use Rattle.vcd_copy.specs.Pieces.{Piece, state_of_pieces}
+use Rattle.vcd_copy.specs.Copied.{IsNext}
 use Rattle.vcd_text.specs.declared.reading.choice.TickRange.{TickRange}
 use Rattle.vcd_part.specs.declared.amender.PartAmender.{PartAmender}
 use Rattle.vcd_part.specs.declared.code_uses.CodeUses.{CodeUses}
 use Rattle.vcd_part.specs.PartPieces.{pieces_of_step, is_within, is_used, is_up_to_first}
 use Rattle.vcd_part.specs.inside.CodeUses.{AreUses, HoldLast, IsChangeItem}
 use Rattle.vcd_part.specs.inside.PartAmender.{Knows}
-use Rattle.vcd_text.proofs.shared.StatesOfPieces.{at_limit}
+use Rattle.vcd_copy.proofs.shared.StatesOfPieces.{at_limit}
 use Rattle.vcd_part.proofs.amender.States.{next_allowed, next_some}
 use Rattle.vcd_part.proofs.amender.Steps.{seen_more, at_same}
 use Rattle.vcd_part.proofs.amender.Decided.{answer_with_window, answer_without_window, window_means_body}

@@ -6,8 +6,8 @@ use Rattle.std.proofs.lemmas.List.Elements.{All-nil, All-cons, All-head, All-tai
 use Rattle.vcd_core.specs.Decimal.{number_of}
 use Rattle.vcd_text.specs.Items.{Item, stamp}
 use Rattle.vcd_text.specs.Grammar.{ParseState, state_after_item}
-use Rattle.vcd_text.specs.Pieces.{Piece}
-use Rattle.vcd_text.specs.Copied.{piece_items}
+use Rattle.vcd_copy.specs.Pieces.{Piece}
+use Rattle.vcd_copy.specs.Copied.{piece_items}
 use Rattle.vcd_text.proofs.shared.ItemTests.{has_tick, allows_stamp}
 use Rattle.vcd_text.proofs.shared.ItemsInTurn.{Reaches, reaches_first}
 use Rattle.vcd_part.specs.PartPieces.{is_stamp, is_later_stamp, begins_with_stamp, without_empty_stamps}

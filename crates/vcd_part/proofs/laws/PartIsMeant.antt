@@ -3,8 +3,8 @@ use Rattle.std.proofs.Common.{◌∙◌, List, refl, ap, sym}
 use Rattle.std.specs.Prelude.{count_by}
 use Rattle.vcd_text.specs.Grammar.{ParseState, is_skipped}
 use Rattle.vcd_text.specs.Meaning.{meaning}
-use Rattle.vcd_text.specs.Copied.{piece_items}
-use Rattle.vcd_text.specs.Pieces.{Piece, state_of_pieces}
+use Rattle.vcd_copy.specs.Copied.{piece_items}
+use Rattle.vcd_copy.specs.Pieces.{Piece, state_of_pieces}
 use Rattle.vcd_part.specs.Requests.{keeps}
 use Rattle.vcd_part.specs.PartPieces.{part_pieces}
 use Rattle.vcd_part.specs.PartLaws.{PartMeansPart}

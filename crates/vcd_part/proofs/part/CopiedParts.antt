@@ -1,14 +1,14 @@
 -- The copy that a `PartAmender` makes is that by the rules of a part.
 use Rattle.std.proofs.Common.{◌≡◌, ◌∙◌, ℕ, Bool, List, [], ◌∷◌, ◌++◌, refl, sym, ap, ap₂, if◌then◌else◌}
 use Rattle.vcd_text.specs.Grammar.{ParseState}
-use Rattle.vcd_text.specs.Pieces.{Piece}
-use Rattle.vcd_text.specs.Copied.{IsCopy, copied_piece, copied_pieces}
+use Rattle.vcd_copy.specs.Pieces.{Piece}
+use Rattle.vcd_copy.specs.Copied.{IsCopy, copied_piece, copied_pieces}
 use Rattle.vcd_part.specs.PartPieces.{pieces_at_end}
 use Rattle.vcd_part.specs.inside.PartCopy.{part_rules, waiting_stamp, last_settled}
-use Rattle.vcd_text.specs.Pieces.{piece_bytes}
+use Rattle.vcd_copy.specs.Pieces.{piece_bytes}
 use Rattle.vcd_part.specs.inside.PartAmender.{rules_of}
 use Rattle.vcd_part.specs.declared.request.Request.{Request}
-use Rattle.vcd_text.proofs.shared.StatesOfPieces.{at_any_limit}
+use Rattle.vcd_copy.proofs.shared.StatesOfPieces.{at_any_limit}
 
 same_copied : (r : Request) (before ps : List Piece)
     → copied_pieces (rules_of r) before ps ≡ copied_pieces (part_rules r) before ps

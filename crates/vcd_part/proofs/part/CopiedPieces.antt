@@ -2,8 +2,8 @@
 use Rattle.std.proofs.Common.{◌≡◌, ℕ, ◌∙◌, Bool, true, false, List, [], ◌∷◌, ◌++◌, refl, ap, sym, append_assoc}
 use Rattle.std.proofs.Common.{if◌then◌else◌}
 use Rattle.std.proofs.lemmas.List.{append-nil}
-use Rattle.vcd_text.specs.Pieces.{Piece, piece_bytes}
-use Rattle.vcd_text.specs.Copied.{copied_piece, copied_pieces, may_be_amended}
+use Rattle.vcd_copy.specs.Pieces.{Piece, piece_bytes}
+use Rattle.vcd_copy.specs.Copied.{copied_piece, copied_pieces, may_be_amended}
 use Rattle.vcd_part.specs.declared.request.Request.{Request}
 use Rattle.vcd_part.specs.PartPieces.{part_after, pieces_of_step}
 use Rattle.vcd_part.specs.inside.PartCopy.{part_rules, PartIsCopied, waiting_stamp, waiting_from}

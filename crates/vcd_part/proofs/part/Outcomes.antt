@@ -6,8 +6,8 @@ use Rattle.std.specs.Io.KnownBytes.{IsAtEnd}
 use Rattle.std.proofs.lemmas.Option.{IfSome_then}
 use Rattle.vcd_core.specs.Devices.{DeviceEnd, HasText, IsRead}
 use Rattle.vcd_text.specs.Grammar.{ParseState, initial_state, state_after}
-use Rattle.vcd_text.specs.Pieces.{Piece, state_of_pieces}
-use Rattle.vcd_text.specs.Copied.{IsCopy, IsTold}
+use Rattle.vcd_copy.specs.Pieces.{Piece, state_of_pieces}
+use Rattle.vcd_copy.specs.Copied.{IsCopy, IsTold}
 use Rattle.vcd_text.specs.declared.reading.TheConstants.{VARIABLE_LIMIT, LONG_FILE_LIMIT}
 use Rattle.vcd_text.specs.declared.reading.choice.TickRange.{TickRange}
 use Rattle.vcd_part.specs.declared.request.Request.{Request}
@@ -21,7 +21,7 @@ use Rattle.vcd_part.specs.declared.written_part.WrittenPart.{WrittenPart}
 use Rattle.vcd_part.specs.WrittenPart.{written_part}
 use Rattle.vcd_part.specs.declared.part.PartError.TheVariants as errors
 use Rattle.vcd_part.specs.inside.PartAmender.{HasSeen, IsSaid, OutcomeOf, refusal_of}
-use Rattle.vcd_text.proofs.shared.StatesOfPieces.{at_any_limit}
+use Rattle.vcd_copy.proofs.shared.StatesOfPieces.{at_any_limit}
 use Rattle.vcd_part.proofs.amender.Decided.{answer_in, answer_with_window, answer_without_window, answer_with_refusal}
 use Rattle.vcd_part.proofs.part.CopiedPieces.{part_is_copied}
 use Rattle.vcd_part.proofs.part.SameItems.{told_items, same_comments}

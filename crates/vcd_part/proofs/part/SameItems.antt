@@ -3,11 +3,11 @@ use Rattle.std.proofs.Common.{◌≡◌, ◌∙◌, ℕ, suc, Bool, true, false,
 use Rattle.std.proofs.lemmas.List.{append-nil}
 use Rattle.vcd_text.specs.Items.{Item, spellings}
 use Rattle.vcd_text.specs.Grammar.{initial_state}
-use Rattle.vcd_text.specs.Pieces.{Piece}
-use Rattle.vcd_text.specs.Copied.{CopyRules, IsCopy, IsTold, piece_items, is_comment_or_other}
+use Rattle.vcd_copy.specs.Pieces.{Piece}
+use Rattle.vcd_copy.specs.Copied.{CopyRules, IsCopy, IsTold, piece_items, is_comment_or_other}
 use Rattle.vcd_part.specs.PartPieces.{bounded_count}
 use Rattle.vcd_part.specs.WrittenPart.{comment_count}
-use Rattle.vcd_text.proofs.shared.SpelledItems.{cut_spells_items, same_items}
+use Rattle.vcd_copy.proofs.shared.SpelledItems.{cut_spells_items, same_items}
 
 pub told_items : (limit : ℕ) (r : CopyRules) (told : List Piece → Type 0) (file text : List ℕ)
     (copy : IsCopy limit r file text) (t : IsTold limit false told file)

@@ -6,7 +6,7 @@ use Rattle.std.proofs.lemmas.Grind.{flat_map-append}
 use Rattle.vcd_core.specs.Decimal.{number_of}
 use Rattle.vcd_core.specs.declared.device.Sink as sinks
 use Rattle.vcd_text.specs.Items.{stamp}
-use Rattle.vcd_text.specs.Pieces.{Piece, piece_bytes, stamp_line}
+use Rattle.vcd_copy.specs.Pieces.{Piece, piece_bytes, stamp_line}
 use Rattle.vcd_text.specs.declared.writing.output.Output.{Output}
 use Rattle.vcd_text.specs.declared.reading.choice.TickRange.{TickRange}
 use Rattle.vcd_text.proofs.shared.EmittedParts.{writes_as, writes_both, writes_none}

@@ -4,8 +4,8 @@ use Rattle.std.proofs.Common.{if◌then◌else◌, not, All}
 use Rattle.std.proofs.lemmas.List.{append-nil}
 use Rattle.std.proofs.lemmas.List.Elements.{All-head, All-tail}
 use Rattle.vcd_text.specs.Grammar.{ParseState}
-use Rattle.vcd_text.specs.Pieces.{Piece, state_of_pieces}
-use Rattle.vcd_text.specs.Copied.{may_be_amended}
+use Rattle.vcd_copy.specs.Pieces.{Piece, state_of_pieces}
+use Rattle.vcd_copy.specs.Copied.{may_be_amended}
 use Rattle.vcd_part.specs.declared.request.Request.{Request}
 use Rattle.vcd_part.specs.PartPieces.{is_stamp, is_later_stamp, begins_with_stamp, without_empty_stamps}
 use Rattle.vcd_part.specs.Requests.{decide}

@@ -3,7 +3,7 @@ use Rattle.std.proofs.Common.{◌≡◌, ◌∙◌, ℕ, Bool, true, false, List
 use Rattle.std.proofs.lemmas.Bool.{false≢true}
 use Rattle.vcd_text.specs.Items.{Item, entry, timescale, scope, upscope, variable, end_definitions, stamp, scalar}
 use Rattle.vcd_text.specs.Items.{vector, real_or_string, dump_word, other}
-use Rattle.vcd_text.specs.Copied.{may_be_amended}
+use Rattle.vcd_copy.specs.Copied.{may_be_amended}
 use Rattle.vcd_part.specs.PartPieces.{is_stamp, is_later_stamp}
 
 -- a stamp of a tick above 0 is a stamp

@@ -6,7 +6,7 @@ use Rattle.vcd_core.specs.declared.capture.HeaderKind.TheVariants.{Date, Comment
 use Rattle.vcd_core.specs.declared.capture.ScopeName.{ScopeName}
 use Rattle.vcd_text.specs.Grammar.{VariableDeclaration}
 use Rattle.vcd_text.specs.Items.{Item, entry, upscope, stamp, other}
-use Rattle.vcd_text.specs.Pieces.{Piece}
+use Rattle.vcd_copy.specs.Pieces.{Piece}
 use Rattle.vcd_part.specs.Pattern.{meets}
 use Rattle.vcd_part.specs.PartPieces.{each_once}
 use Rattle.vcd_part.specs.WrittenPart.{comment_count, emptied_scopes}

@@ -4,7 +4,7 @@ use Rattle.std.specs.Prelude.{IfSome, Some, None, filter, nat_lt}
 use Rattle.vcd_core.specs.Word.{is_one_of}
 use Rattle.vcd_text.specs.Grammar.{VariableDeclaration, ParseState}
 use Rattle.vcd_text.specs.AsDeclared.{declared_name}
-use Rattle.vcd_text.specs.Pieces.{state_of_pieces}
+use Rattle.vcd_copy.specs.Pieces.{state_of_pieces}
 use Rattle.vcd_text.specs.declared.reading.choice.TickRange.{TickRange}
 use Rattle.vcd_part.specs.declared.amender.PartAmender.{PartAmender}
 use Rattle.vcd_part.specs.declared.named_variable.NamedVariable.{NamedVariable}

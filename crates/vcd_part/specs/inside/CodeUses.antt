@@ -3,8 +3,8 @@ use Rattle.std.specs.Prelude.{◌≡◌, ℕ, Bool, true, false, List, [], map, 
 use Rattle.std.specs.Prelude.{bytes_eq, position, unwrap_or, ◌<◌, All, Some}
 use Rattle.vcd_text.specs.Items.{Item}
 use Rattle.vcd_text.specs.Grammar.{VariableDeclaration}
-use Rattle.vcd_text.specs.Pieces.{Piece}
-use Rattle.vcd_text.specs.Copied.{value_code, real_or_string_code}
+use Rattle.vcd_copy.specs.Pieces.{Piece}
+use Rattle.vcd_copy.specs.Copied.{value_code, real_or_string_code}
 use Rattle.vcd_text.specs.inside.reading.CodeTargets.{code_target}
 use Rattle.vcd_part.specs.declared.code_uses.CodeUse.{CodeUse}
 use Rattle.vcd_part.specs.declared.code_uses.CodeUses.{CodeUses}

@@ -6,8 +6,8 @@ use Rattle.vcd_part.specs.declared.part.PartError.{PartError}
 use Rattle.vcd_part.specs.declared.part.PartError.TheVariants as errors
 use Rattle.vcd_part.specs.declared.written_part.WrittenPart.{WrittenPart}
 use Rattle.vcd_text.specs.Grammar.{ParseState}
-use Rattle.vcd_text.specs.Pieces.{Piece, state_of_pieces}
-use Rattle.vcd_text.specs.Copied.{CopyRules}
+use Rattle.vcd_copy.specs.Pieces.{Piece, state_of_pieces}
+use Rattle.vcd_copy.specs.Copied.{CopyRules}
 use Rattle.vcd_text.specs.declared.reading.choice.TickRange.{TickRange}
 use Rattle.vcd_part.specs.declared.amender.PartAmender.{PartAmender}
 use Rattle.vcd_part.specs.declared.request.Request.{Request}
@@ -15,7 +15,7 @@ use Rattle.vcd_part.specs.declared.request.Refusal.{Refusal}
 use Rattle.vcd_part.specs.Requests.{decide, unmet}
 use Rattle.vcd_part.specs.PartPieces.{is_up_to_first, pieces_at_end}
 use Rattle.vcd_part.specs.WrittenPart.{comment_count, written_part}
-use Rattle.vcd_text.specs.Pieces.{piece_bytes}
+use Rattle.vcd_copy.specs.Pieces.{piece_bytes}
 use Rattle.vcd_part.specs.inside.Choice.{HasNoted}
 use Rattle.vcd_part.specs.inside.CodeUses.{AreUses, HoldLast}
 use Rattle.vcd_part.specs.inside.PartCopy.{part_rules, waiting_stamp, last_settled}

@@ -1,9 +1,9 @@
 -- The part as a copy, in which a stamp waits until something of the part is at its tick.
 use Rattle.std.specs.Prelude.{◌≡◌, ℕ, if◌then◌else◌, List, [], ◌∷◌, ◌++◌}
 use Rattle.vcd_core.specs.declared.device.Sink as sinks
-use Rattle.vcd_text.specs.Copied.{CopyRules, copied}
+use Rattle.vcd_copy.specs.Copied.{CopyRules, copied}
 use Rattle.vcd_text.specs.EmittedText.{Emits}
-use Rattle.vcd_text.specs.Pieces.{Piece, piece_bytes}
+use Rattle.vcd_copy.specs.Pieces.{Piece, piece_bytes}
 use Rattle.vcd_text.specs.declared.writing.output.Output.{Output}
 use Rattle.vcd_part.specs.declared.request.Request.{Request}
 use Rattle.vcd_part.specs.PartPieces.{is_stamp, is_later_stamp, pieces_of_step, pieces_at_end}

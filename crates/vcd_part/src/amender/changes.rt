@@ -3,10 +3,10 @@
 ghost use Rattle.std.specs.Prelude.{◌≡◌, ◌++◌, ◌∷◌, [], ◌&&◌, ℕ, List, OnOk, OnErr, false, Some};
 ghost use Rattle.std.specs.Prelude.{if◌then◌else◌};
 ghost use Rattle.vcd_text.specs.EmittedText.{Emits, EmitsMore};
-ghost use Rattle.vcd_text.specs.Copied.{IsNext};
+ghost use Rattle.vcd_copy.specs.Copied.{IsNext};
 ghost use Rattle.vcd_text.specs.Grammar.{VariableDeclaration};
-ghost use Rattle.vcd_text.specs.Pieces.{Piece};
-ghost use Rattle.vcd_text.specs.declared.copying.amender.InPlace.TheVariants as places;
+ghost use Rattle.vcd_copy.specs.Pieces.{Piece};
+ghost use Rattle.vcd_copy.specs.declared.copying.amender.InPlace.TheVariants as places;
 ghost use Rattle.vcd_part.specs.declared.request.Request.{Request};
 ghost use Rattle.vcd_part.specs.PartPieces as spec;
 ghost use Rattle.vcd_part.specs.inside.CodeUses.{IsChangeItem, AreUses};
@@ -15,8 +15,9 @@ ghost use Rattle.vcd_part.specs.inside.PartCopy.{IsPut};
 
 use super::PartAmender;
 use crate::window::{is_up_to_first, is_within};
+use vcd_copy::InPlace;
 use vcd_core::{NoMemory, Sink};
-use vcd_text::{InPlace, Output, TickRange, write_bytes};
+use vcd_text::{Output, TickRange, write_bytes};
 
 impl PartAmender<'_, '_> {
     /// What is in the place of a change. It takes one look-up of its code.

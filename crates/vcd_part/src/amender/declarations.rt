@@ -2,15 +2,16 @@
 
 ghost use Rattle.std.specs.Prelude.{◌≡◌, ◌++◌, ◌∷◌, [], ℕ, List, OnOk, OnErr, if◌then◌else◌};
 ghost use Rattle.vcd_text.specs.EmittedText.{Emits, EmitsMore};
-ghost use Rattle.vcd_text.specs.Copied.{IsTakenNext};
-ghost use Rattle.vcd_text.specs.Pieces.{Piece, piece_bytes};
-ghost use Rattle.vcd_text.specs.declared.copying.amender.AmendableItem.TheVariants as shown;
+ghost use Rattle.vcd_copy.specs.Copied.{IsTakenNext};
+ghost use Rattle.vcd_copy.specs.Pieces.{Piece, piece_bytes};
+ghost use Rattle.vcd_copy.specs.declared.copying.amender.AmendableItem.TheVariants as shown;
 ghost use Rattle.vcd_part.specs.inside.PartAmender.{HasSeen, rules_of};
 
 use super::PartAmender;
 use crate::comment::write_comment;
+use vcd_copy::VariableWords;
 use vcd_core::{NoMemory, ScopeName, Sink, Timescale};
-use vcd_text::{Output, VariableWords, write_byte, write_bytes};
+use vcd_text::{Output, write_byte, write_bytes};
 
 impl PartAmender<'_, '_> {
     /// Writes what is in the place of a `$var`.

@@ -5,13 +5,13 @@ ghost use Rattle.std.specs.Prelude.{◌≡◌, ◌++◌, ◌∷◌, [], ◌&&◌
 ghost use Rattle.std.specs.Prelude.{if◌then◌else◌, nat_le, nat_lt, Some};
 ghost use Rattle.vcd_core.specs.Decimal.{number_of};
 ghost use Rattle.vcd_text.specs.EmittedText.{Emits, EmitsMore};
-ghost use Rattle.vcd_text.specs.Copied.{IsShownNext, IsTakenNext};
+ghost use Rattle.vcd_copy.specs.Copied.{IsShownNext, IsTakenNext};
 ghost use Rattle.vcd_core.specs.declared.capture.ScopeName.{ScopeName};
 ghost use Rattle.vcd_text.specs.Grammar.{VariableDeclaration};
 ghost use Rattle.vcd_text.specs.Items.{stamp};
-ghost use Rattle.vcd_text.specs.Pieces.{Piece};
-ghost use Rattle.vcd_text.specs.declared.copying.amender.AmendableItem.TheVariants as shown;
-ghost use Rattle.vcd_text.specs.declared.copying.amender.InPlace.TheVariants as places;
+ghost use Rattle.vcd_copy.specs.Pieces.{Piece};
+ghost use Rattle.vcd_copy.specs.declared.copying.amender.AmendableItem.TheVariants as shown;
+ghost use Rattle.vcd_copy.specs.declared.copying.amender.InPlace.TheVariants as places;
 ghost use Rattle.vcd_part.specs.declared.request.Request.{Request};
 ghost use Rattle.vcd_part.specs.PartPieces as spec;
 ghost use Rattle.vcd_part.specs.inside.CodeUses.{HoldLast};
@@ -21,8 +21,9 @@ ghost use Rattle.vcd_part.specs.inside.PartCopy.{IsPut};
 use super::PartAmender;
 use crate::code_uses::CodeUses;
 use crate::window::{is_up_to_first, is_within, spell_last_stamp, spell_stamp_in_part};
+use vcd_copy::InPlace;
 use vcd_core::{NoMemory, Sink};
-use vcd_text::{InPlace, Output, TickRange, write_bytes};
+use vcd_text::{Output, TickRange, write_bytes};
 
 impl PartAmender<'_, '_> {
     /// What is in the place of a stamp: nothing, unless it ends the time before the window, is

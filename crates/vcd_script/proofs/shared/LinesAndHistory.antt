@@ -29,7 +29,7 @@ use Rattle.vcd_script.specs.inside.running.LineAnswers.{line_answers}
 use Rattle.vcd_script.specs.SessionLines.{machine_after_command, machine_after_line, machine_after_lines, answer_on}
 use Rattle.vcd_script.specs.SessionLines.{refusal_count, line_replies}
 use Rattle.vcd_script.specs.inside.replies.Answering.{answer_reply}
-use Rattle.vcd_script.proofs.replies.AnsweredLines.{reply_is_answer}
+use Rattle.vcd_script.proofs.shared.AnsweredLines.{reply_is_answer}
 
 -- ---- a line
 

@@ -107,7 +107,7 @@ fn refuse_step(alloc: Global, number: u64, refusal: StepError) -> MemoryResult<R
 }
 
 /// Whether a step is refused because memory ran out.
-pub(crate) fn is_no_memory(refusal: StepError) -> bool
+pub fn is_no_memory(refusal: StepError) -> bool
     ensures { result ≡ is_no_memory refusal }
 {
     refusal == StepError::NoMemory || refusal == StepError::Edit(EditError::NoMemory)

@@ -30,7 +30,7 @@ use Rattle.vcd_text.specs.inside.reading.Declarations.{is_end_word}
 use Rattle.vcd_text.specs.inside.writing.Declarations.{header_items}
 use Rattle.vcd_text.specs.inside.writing.Transitions.{items_of_ticks}
 use Rattle.vcd_text.proofs.shared.CodesDiffer.{codes_differ, code_no_end}
-use Rattle.vcd_text.proofs.writing.output.Pieces.{ticks_in_turn}
+use Rattle.vcd_text.proofs.shared.EmittedParts.{ticks_in_turn}
 use Rattle.vcd_text.proofs.read_back.Decimals.{decimal_digits, decimal_is_number, number_of-decimal}
 use Rattle.vcd_text.proofs.shared.ItemsInTurn.{Reaches, reaches_none, reaches_first, reaches_one, reaches_both}
 use Rattle.vcd_text.proofs.shared.ItemsInTurn.{reaches_same}

@@ -29,7 +29,7 @@ use Rattle.vcd_text.proofs.shared.ItemTests.{all_weaker}
 use Rattle.vcd_text.proofs.shared.WordsByBytes.{words_by_bytes}
 use Rattle.vcd_text.proofs.read_back.Words.{is_unbroken, is_spelled, words_of_lines}
 use Rattle.vcd_text.proofs.shared.ScopePaths.{all_closed, later_scopes}
-use Rattle.vcd_text.proofs.writing.output.Pieces.{ticks_in_turn}
+use Rattle.vcd_text.proofs.shared.EmittedParts.{ticks_in_turn}
 use Rattle.vcd_text.proofs.shared.ItemsInTurn.{Reaches, reaches_both}
 use Rattle.vcd_text.proofs.read_back.Changes.{changes_lead, value_changes_of, state_at, text_skips_nothing}
 use Rattle.vcd_text.proofs.read_back.Changes.{signals_mean}

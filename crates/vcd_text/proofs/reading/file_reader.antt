@@ -1,3 +1,2 @@
 -- Lemmas of `reading/file_reader`.
-pub mod Chunks
 pub mod PrefixResults

@@ -1,4 +1,3 @@
 -- Lemmas of `reading/parser`.
-pub mod NoWordLeft
 pub mod NextWord
 pub mod SkippedCount

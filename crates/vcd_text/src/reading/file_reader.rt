@@ -171,7 +171,7 @@ pub fn check_complete(parser: &Parser, line: u64) -> Result<(), ReadError>
 
 /// The number of bytes up to and including the last white space. The first `unfinished_len` bytes
 /// have none.
-#[tactic(auto, using(crate::proofs::reading::file_reader::Chunks::complete_at))]
+#[tactic(auto, using(crate::proofs::shared::Chunks::complete_at))]
 pub fn complete_words_len(bytes: &[u8], unfinished_len: usize) -> usize
     requires within { unfinished_len ≤ length bytes.now }
     requires no_space { list_all (λ b. not (spec.is_white_space b)) (take unfinished_len bytes.now)

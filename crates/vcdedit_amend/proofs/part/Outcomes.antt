@@ -7,7 +7,7 @@ use Rattle.vcd_part.specs.declared.request.Request.{Request}
 use Rattle.vcd_part.specs.declared.written_part.WrittenPart.{WrittenPart}
 use Rattle.vcdedit_amend.specs.declared.amend_error.AmendError.{AmendError}
 use Rattle.vcdedit_amend.specs.CommandLine.{AskedOptions}
-use Rattle.vcdedit_amend.specs.ProgramEnds.{IsOutcomeOnFile, IsCaptureFault, not_read}
+use Rattle.vcdedit_amend.specs.ProgramEnds.{IsOutcomeOnFile, not_read}
 use Rattle.vcdedit_amend.specs.PartOutcome.{IsTaken, IsHeld, IsOutcomeOfRequest, IsPartFileFault, no_part_file}
 
 -- an error that is handed on
@@ -27,12 +27,6 @@ pub refused_first : (o : AskedOptions) (r : Request) (e : AmendError)
     → IsOutcomeOfRequest o r (Err e)
 refused_first o r e (inl unread) = inl (e, inl (inr (inl unread)), refl)
 refused_first o r e (inr (capture, out, taken)) = refused o r capture out e taken
-
--- the part is taken, but the capture was changed meanwhile
-pub changed_since : (o : AskedOptions) (r : Request) (capture out : DeviceEnd) (written : WrittenPart) (e : AmendError)
-    → IsTaken r capture out (Ok written) → IsCaptureFault e → IsOutcomeOfRequest o r (Err e)
-changed_since o r capture out written e taken fault =
-    inr (inr (capture, out, written, taken, inr (inl (e, inl fault, refl))))
 
 -- the file of the part can't be made
 pub no_file : (o : AskedOptions) (r : Request) (e : AmendError) → IsPartFileFault e → IsOutcomeOfRequest o r (Err e)

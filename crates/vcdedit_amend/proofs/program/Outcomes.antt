@@ -3,12 +3,12 @@ use Rattle.std.proofs.Common.{◌≡◌, inl, inr, ℕ, Option, Some, None, refl
 use Rattle.std.specs.Prelude.{Result, Ok, Err, IsErrAnd, is_some}
 use Rattle.clap.specs.Words.{Text}
 use Rattle.vcd_core.specs.Devices.{DeviceEnd}
-use Rattle.vcd_text.specs.declared.marking.head.MarkHead.{MarkHead}
+use Rattle.vcd_copy.specs.declared.marking.head.MarkHead.{MarkHead}
 use Rattle.vcd_script.specs.declared.running.run_error.Summary.{Summary}
-use Rattle.vcd_amend.specs.AmendRunEnds.{PassEnds, AmendRunEnds}
-use Rattle.vcd_amend.specs.MarkedRun.{IsWrittenMarked, MarkedRunEnds}
-use Rattle.vcd_amend.specs.TakenRemarks.{TakesRemarks}
-use Rattle.vcd_amend.specs.declared.running.AmendRunError.{AmendRunError}
+use Rattle.vcd_amend_run.specs.AmendRunEnds.{PassEnds, AmendRunEnds}
+use Rattle.vcd_amend_run.specs.MarkedRun.{IsWrittenMarked, MarkedRunEnds}
+use Rattle.vcd_amend_run.specs.TakenRemarks.{TakesRemarks}
+use Rattle.vcd_amend_run.specs.declared.running.AmendRunError.{AmendRunError}
 use Rattle.vcdedit_amend.specs.declared.amend_error.AmendError.{AmendError}
 use Rattle.vcdedit_amend.specs.declared.amend_error.AmendError.TheVariants as errors
 use Rattle.vcdedit_amend.specs.ProgramEnds.{IsCaptureFault, IsOutcomeOfRun, IsOutcomeOn}

@@ -1,7 +1,7 @@
 use Rattle.std.proofs.Common.{refl, subst}
 use Rattle.std.proofs.lemmas.Option.{IfSome_then}
 use Rattle.std.proofs.lemmas.Result.{on_ok_weaker}
-use Rattle.vcd_text.specs.Copied.{IsCopy}
+use Rattle.vcd_copy.specs.Copied.{IsCopy}
 use Rattle.vcd_amend.specs.AmendedCopy.{amendment_rules}
 use Rattle.vcd_amend.specs.AmendmentContents.{amendment_contents}
 use Rattle.vcd_amend.proofs.amending.AnyLimit.{copy_is_amended}

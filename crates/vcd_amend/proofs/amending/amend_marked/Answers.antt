@@ -3,11 +3,11 @@ use Rattle.std.proofs.Common.{◌≡◌, ◌∙◌, refl, sym, ap, subst, true, 
 use Rattle.std.proofs.lemmas.Bool.Decides.{nat_tests}
 use Rattle.std.proofs.lemmas.Option.{IfSome_then}
 use Rattle.std.proofs.lemmas.Result.{on_ok_weaker}
-use Rattle.vcd_text.specs.Copied.{IsCopy}
-use Rattle.vcd_text.specs.Marks.{marked_rules, bytes_of_mark}
-use Rattle.vcd_text.specs.MarkText.{piece_of_mark}
+use Rattle.vcd_copy.specs.Copied.{IsCopy}
+use Rattle.vcd_copy.specs.Marks.{marked_rules, bytes_of_mark}
+use Rattle.vcd_copy.specs.MarkText.{piece_of_mark}
 use Rattle.vcd_text.specs.Grammar.{initial_state}
-use Rattle.vcd_text.specs.Pieces.{Piece}
+use Rattle.vcd_copy.specs.Pieces.{Piece}
 use Rattle.vcd_amend.specs.Amendment.{Amendment}
 use Rattle.vcd_amend.specs.AmendedText.{amended_text}
 use Rattle.vcd_amend.specs.AmendedCopy.{IsAmended, amendment_rules}
@@ -18,7 +18,7 @@ use Rattle.vcd_amend.specs.declared.cut_ticks.CutTicks.{CutTicks}
 use Rattle.vcd_amend.proofs.amending.AnyLimit.{copy_is_amended}
 use Rattle.vcd_amend.proofs.amending.CutTexts.{copy_is_amended_after_cuts}
 use Rattle.vcd_amend.proofs.amending.MarkedTexts.{marked_copy, amendment_marks, retimed_marks}
-use Rattle.vcd_amend.proofs.laws.EditedFiles.{pieces_stay}
+use Rattle.vcd_amend.proofs.retimed.NoCut.{pieces_stay}
 use Rattle.vcd_amend.proofs.amending.amend_marked.Goals as goal
 
 without_cuts : (limit : ℕ) (cuts : List CutTicks) (a : Amendment) (file text : List ℕ) → length cuts ≡ 0

@@ -7,7 +7,7 @@ use Rattle.vcd_amend.specs.Amendment.{Amendment}
 use Rattle.vcd_amend.specs.AmendedMeaning.{AreApart}
 use Rattle.vcd_amend.specs.DeclaredVariables.{declaration_of_variable}
 use Rattle.vcd_amend.proofs.coding.AmendmentForCapture.{codes_apart, same_amendment}
-use Rattle.vcd_amend.specs.AmendedRun.{signal_from}
+use Rattle.vcd_core.specs.SignalOrigins.{signal_from}
 use Rattle.vcd_amend.specs.FreshCodes.{fresh_code}
 use Rattle.vcd_amend.specs.inside.coding.KeptSignals.{kept_signals, amendment_of_kept}
 use Rattle.vcd_amend.specs.inside.coding.ChangedWaves.{kept_contents}

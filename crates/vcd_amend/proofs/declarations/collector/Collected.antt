@@ -11,18 +11,18 @@ use Rattle.vcd_text.specs.Items.{Item, entry, timescale, scope, upscope, variabl
 use Rattle.vcd_text.specs.Items.{vector, real_or_string, dump_word, other, spelling, spellings}
 use Rattle.vcd_text.specs.Grammar.{ParseState, VariableDeclaration, initial_state, declaration_of, Allows, AllowsAll}
 use Rattle.vcd_text.specs.Grammar.{state_after, state_after_item, word_texts, Accepts, fits}
-use Rattle.vcd_text.specs.Pieces.{Piece, state_of_pieces}
-use Rattle.vcd_text.specs.Copied.{IsTakenNext, piece_items, IsTold}
-use Rattle.vcd_text.specs.declared.copying.amender.AmendableItem.{AmendableItem}
-use Rattle.vcd_text.specs.declared.copying.amender.AmendableItem.TheVariants as shown
-use Rattle.vcd_text.specs.CopyEnds.{ReadFails}
+use Rattle.vcd_copy.specs.Pieces.{Piece, state_of_pieces}
+use Rattle.vcd_copy.specs.Copied.{IsTakenNext, piece_items, IsTold}
+use Rattle.vcd_copy.specs.declared.copying.amender.AmendableItem.{AmendableItem}
+use Rattle.vcd_copy.specs.declared.copying.amender.AmendableItem.TheVariants as shown
+use Rattle.vcd_copy.specs.CopyEnds.{ReadFails}
 use Rattle.vcd_text.specs.MemoryErrors.{memory_error}
 use Rattle.vcd_text.specs.Refusals.{IsRefusal, no_memory}
-use Rattle.vcd_text.specs.VariableWords.{IsVariable}
+use Rattle.vcd_copy.specs.VariableWords.{IsVariable}
 use Rattle.vcd_text.proofs.shared.FirstItem.{one_item, one_rest}
-use Rattle.vcd_text.proofs.shared.StatesOfPieces.{last_allowed, one_more, at_any_limit}
+use Rattle.vcd_copy.proofs.shared.StatesOfPieces.{last_allowed, one_more, at_any_limit}
 use Rattle.vcd_text.proofs.shared.DeclaringWords.{declares}
-use Rattle.vcd_text.proofs.pieces.Cuts.{spelling_some}
+use Rattle.vcd_copy.proofs.pieces.Cuts.{spelling_some}
 use Rattle.vcd_amend.specs.DeclaredVariables.{declaration_of_variable}
 use Rattle.vcd_amend.specs.inside.declarations.Collector.{HasCollected}
 use Rattle.vcd_amend.specs.declared.declarations.collector.Collector.{Collector}

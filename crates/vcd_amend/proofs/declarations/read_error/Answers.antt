@@ -1,5 +1,5 @@
 use Rattle.std.proofs.Common.{subst}
-use Rattle.vcd_text.specs.CopyEnds.{CopyFails}
+use Rattle.vcd_copy.specs.CopyEnds.{CopyFails}
 use Rattle.vcd_amend.proofs.declarations.collector.Collected.{memory_fails}
 use Rattle.vcd_amend.proofs.declarations.read_error.Goals as goal
 

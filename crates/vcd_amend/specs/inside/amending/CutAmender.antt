@@ -1,8 +1,8 @@
 -- An amendment of a file after cuts, while the file is copied.
 use Rattle.std.specs.Prelude.{◌≡◌, ◌≤◌, nat_lt, ℕ, Bool, if◌then◌else◌, List, []}
 use Rattle.vcd_text.specs.Grammar.{ParseState, initial_state}
-use Rattle.vcd_text.specs.Pieces.{Piece, state_of_pieces}
-use Rattle.vcd_text.specs.Copied.{CopyRules}
+use Rattle.vcd_copy.specs.Pieces.{Piece, state_of_pieces}
+use Rattle.vcd_copy.specs.Copied.{CopyRules}
 use Rattle.vcd_text.specs.inside.reading.CodeTargets.{code_target}
 use Rattle.vcd_amend.specs.AmendmentContents.{amendment_contents}
 use Rattle.vcd_amend.specs.AmendedCopy.{amendment_rules}

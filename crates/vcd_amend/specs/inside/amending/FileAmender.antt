@@ -4,7 +4,7 @@ use Rattle.std.specs.Prelude.{map, All}
 use Rattle.vcd_core.specs.Decimal.{number_of}
 use Rattle.vcd_text.specs.Items.{variable}
 use Rattle.vcd_text.specs.Grammar.{ParseState, VariableDeclaration, initial_state, kept_variables}
-use Rattle.vcd_text.specs.Pieces.{Piece, state_of_pieces}
+use Rattle.vcd_copy.specs.Pieces.{Piece, state_of_pieces}
 use Rattle.vcd_text.specs.inside.reading.CodeTargets.{code_target}
 use Rattle.vcd_amend.specs.Amendment as spec
 use Rattle.vcd_amend.specs.Amendment.{is_used}

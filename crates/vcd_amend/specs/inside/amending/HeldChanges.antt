@@ -4,10 +4,10 @@ use Rattle.std.specs.Prelude.{◌∷◌, ◌++◌, bytes_eq, Some, decimal, ◌=
 use Rattle.std.specs.List.{list_any}
 use Rattle.vcd_core.specs.Decimal.{number_of}
 use Rattle.vcd_text.specs.Items.{stamp}
-use Rattle.vcd_text.specs.Pieces.{Piece}
+use Rattle.vcd_copy.specs.Pieces.{Piece}
 use Rattle.vcd_text.specs.inside.reading.CodeTargets.{code_target}
 use Rattle.vcd_amend.specs.Retimed.{ChangeKey, digits_key, text_key, change_key}
-use Rattle.vcd_text.specs.Pieces.{stamp_line}
+use Rattle.vcd_copy.specs.Pieces.{stamp_line}
 use Rattle.vcd_amend.specs.declared.amending.held_changes.HeldChange.{HeldChange}
 use Rattle.vcd_amend.specs.declared.amending.held_changes.SeenCodes.{SeenCodes}
 

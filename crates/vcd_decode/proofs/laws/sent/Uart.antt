@@ -29,7 +29,7 @@ use Rattle.vcd_decode.specs.declared.annotation.Annotation.{Annotation}
 use Rattle.vcd_decode.specs.SetupResults.{IsUartSetup}
 use Rattle.vcd_decode.specs.inside.UartFrames.{is_fall}
 use Rattle.vcd_decode.specs.Laws.{UartFramesAreFound}
-use Rattle.vcd_decode.proofs.uart_frames.Falls.{offsets_rise, whole, glitch, never_both}
+use Rattle.vcd_decode.proofs.shared.Falls.{offsets_rise, whole, glitch, never_both}
 use Rattle.vcd_decode.proofs.laws.sent.Levels.{at_level, level_clear, data_clear, data_length, number_of_data}
 use Rattle.vcd_decode.proofs.laws.sent.Levels.{map_range}
 

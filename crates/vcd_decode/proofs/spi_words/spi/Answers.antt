@@ -2,7 +2,7 @@ use Rattle.std.proofs.Common.{◌≡◌, ◌<◌, Option, Some, None, refl, ◌�
 use Rattle.std.specs.Borrow.{Bor}
 use Rattle.std.specs.Option.{is_some, option_copied}
 use Rattle.vcd_core.specs.WaveView.{WaveView}
-use Rattle.vcd_decode.proofs.spi_words.EdgeByEdge.{so_far_none, so_far_open, so_far_more, so_far_ends}
+use Rattle.vcd_decode.proofs.shared.EdgeByEdge.{so_far_none, so_far_open, so_far_more, so_far_ends}
 use Rattle.vcd_decode.proofs.spi_words.spi.Goals as goal
 
 copied : (wave : Option (Bor WaveView)) → is_some wave ≡ is_some (option_copied wave)

@@ -2,7 +2,7 @@ use Rattle.std.proofs.Common.{◌≡◌, ◌+◌, ◌∙◌, true, false, Some, 
 use Rattle.vcd_decode.specs.Lines.{is_zero, annotation}
 use Rattle.vcd_decode.specs.WaveLines.{line_of}
 use Rattle.vcd_decode.specs.Uart.{sample_tick, sample_offset}
-use Rattle.vcd_decode.proofs.uart_frames.Falls.{cut_in_start_bit, glitch, cut_later, whole}
+use Rattle.vcd_decode.proofs.shared.Falls.{cut_in_start_bit, glitch, cut_later, whole}
 use Rattle.vcd_decode.proofs.uart_frames.begun_frame.Goals as goal
 
 pub returns-then-ticks_left-first : goal.returns-then-ticks_left-first

@@ -1,7 +1,7 @@
 use Rattle.std.proofs.Common.{◌∙◌, ◌-◌, length, take, arith}
 use Rattle.std.proofs.lemmas.List.{length-take, get_or-take}
 use Rattle.vcd_core.specs.declared.wave.Change.{Change}
-use Rattle.vcd_decode.proofs.uart_frames.Falls.{letter_counted, no_letter_counted, letter_at_item}
+use Rattle.vcd_decode.proofs.shared.Falls.{letter_counted, no_letter_counted, letter_at_item}
 use Rattle.vcd_decode.proofs.uart_frames.letter_near.Goals as goal
 
 pub bit-requires : goal.bit-requires

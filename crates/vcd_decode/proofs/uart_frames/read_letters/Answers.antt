@@ -3,7 +3,7 @@ use Rattle.std.proofs.lemmas.List.FromFn.{fill_by_all}
 use Rattle.vcd_core.specs.declared.bit.Bit.TheVariants.{X}
 use Rattle.vcd_decode.specs.WaveLines.{line_of}
 use Rattle.vcd_decode.specs.Uart.{last_bit, sample_tick}
-use Rattle.vcd_decode.proofs.uart_frames.Falls.{offsets_rise}
+use Rattle.vcd_decode.proofs.shared.Falls.{offsets_rise}
 use Rattle.vcd_decode.proofs.shared.Groups.{map_shifted}
 use Rattle.vcd_decode.proofs.uart_frames.read_letters.Goals as goal
 

@@ -5,8 +5,8 @@ use Rattle.vcd_decode.specs.declared.annotation.Annotation.{Annotation}
 use Rattle.vcd_decode.specs.Lines.{is_one, is_zero}
 use Rattle.vcd_decode.specs.WaveLines.{line_of}
 use Rattle.vcd_decode.specs.Uart.{begun_frame, frames}
-use Rattle.vcd_decode.proofs.uart_frames.Falls.{fall_ticks, walked, all_walked, frames_by_changes, letter_at_item}
-use Rattle.vcd_decode.proofs.uart_frames.Falls.{up_to_at}
+use Rattle.vcd_decode.proofs.shared.Falls.{fall_ticks, walked, all_walked, frames_by_changes, letter_at_item}
+use Rattle.vcd_decode.proofs.shared.Falls.{up_to_at}
 use Rattle.vcd_decode.proofs.uart_frames.uart.Goals as goal
 use Rattle.vcd_decode.proofs.uart_frames.uart.Goals.{then-begins_frame, else-begins_frame}
 

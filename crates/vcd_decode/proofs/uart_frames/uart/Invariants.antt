@@ -3,7 +3,7 @@ use Rattle.std.proofs.Common.{◌≡◌, ◌++◌, drop}
 use Rattle.vcd_core.specs.declared.bit.Bit.TheVariants.{X}
 use Rattle.vcd_decode.specs.WaveLines.{line_of}
 use Rattle.vcd_decode.specs.Uart.{begun_frame, frames}
-use Rattle.vcd_decode.proofs.uart_frames.Falls.{fall_ticks}
+use Rattle.vcd_decode.proofs.shared.Falls.{fall_ticks}
 use Rattle.vcd_decode.proofs.uart_frames.uart.Given as goal
 
 abbrev pub invariant-loop-index : goal.invariant-loop-index

@@ -12,7 +12,7 @@ use Rattle.vcd_text.specs.Items.{Item, entry, timescale, scope, upscope, variabl
 use Rattle.vcd_text.specs.Items.{vector, real_or_string, dump_word, other}
 use Rattle.vcd_text.specs.Grammar.{ParseState, VariableDeclaration, ValueChange, is_skipped, state_after_item}
 use Rattle.vcd_text.specs.Grammar.{with_value_change, value_changes_after, variable_of}
-use Rattle.vcd_text.specs.Pieces.{Piece}
+use Rattle.vcd_copy.specs.Pieces.{Piece}
 use Rattle.vcd_text.specs.inside.reading.Variables.{latest_value}
 use Rattle.vcd_text.proofs.shared.ItemsInTurn.{value_with}
 use Rattle.vcd_part.specs.PartPieces.{has_signal, is_change_of, last_such}

@@ -13,13 +13,13 @@ use Rattle.vcd_core.specs.declared.capture.HeaderKind.TheVariants.{Comment}
 use Rattle.vcd_text.specs.Words.{words_of}
 use Rattle.vcd_text.specs.Items.{end_word, spelling, has_no_end_word, header_word}
 use Rattle.vcd_text.specs.Grammar.{word_texts}
-use Rattle.vcd_text.specs.Pieces.{Piece}
+use Rattle.vcd_copy.specs.Pieces.{Piece}
 use Rattle.vcd_text.specs.declared.reading.choice.TickRange.{TickRange}
 use Rattle.vcd_text.proofs.read_back.Decimals.{decimal_digits, decimal_not_empty}
 use Rattle.vcd_text.proofs.read_back.Words.{is_unbroken}
 use Rattle.vcd_text.proofs.read_back.WholeText.{words_are_unbroken, with_end_unbroken}
 use Rattle.vcd_text.proofs.shared.ItemTests.{all_weaker}
-use Rattle.vcd_text.proofs.pieces.Bytes.{texts_are, joined_words}
+use Rattle.vcd_copy.proofs.pieces.Bytes.{texts_are, joined_words}
 use Rattle.vcd_part.specs.PartPieces.{comment_words, comment_piece, last_word, bounded_count}
 use Rattle.vcd_part.proofs.laws.states.Windows.{IsInOrder}
 

@@ -13,8 +13,8 @@ use Rattle.vcd_text.specs.Items.{Item, entry, timescale, scope, upscope, variabl
 use Rattle.vcd_text.specs.Items.{vector, real_or_string, dump_word, other}
 use Rattle.vcd_text.specs.Grammar.{ParseState, VariableDeclaration, Allows, state_after_item, is_skipped}
 use Rattle.vcd_text.specs.Grammar.{declaration_of, variable_of, may_have_code, variable_tests, kept_variables}
-use Rattle.vcd_text.specs.Pieces.{Piece}
-use Rattle.vcd_text.specs.Copied.{piece_items}
+use Rattle.vcd_copy.specs.Pieces.{Piece}
+use Rattle.vcd_copy.specs.Copied.{piece_items}
 use Rattle.vcd_text.specs.declared.reading.choice.TickRange.{TickRange}
 use Rattle.vcd_text.proofs.shared.ItemTests.{passes, passed, allows_entry, allows_end_definitions}
 use Rattle.vcd_text.proofs.shared.ItemsInTurn.{Reaches, reaches_none, reaches_one, reaches_same}

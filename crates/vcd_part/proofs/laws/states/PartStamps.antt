@@ -8,15 +8,15 @@ use Rattle.vcd_core.specs.declared.capture.TheConstants.{END_LIMIT}
 use Rattle.vcd_core.specs.Decimal.{number_of, is_number}
 use Rattle.vcd_text.specs.Items.{Item, stamp}
 use Rattle.vcd_text.specs.Grammar.{ParseState, ValueChange, Allows}
-use Rattle.vcd_text.specs.Pieces.{Piece}
-use Rattle.vcd_text.specs.Copied.{piece_items}
+use Rattle.vcd_copy.specs.Pieces.{Piece}
+use Rattle.vcd_copy.specs.Copied.{piece_items}
 use Rattle.vcd_text.specs.declared.reading.choice.TickRange.{TickRange}
 use Rattle.vcd_text.proofs.shared.ItemTests.{has_tick}
 use Rattle.vcd_text.proofs.shared.ItemsInTurn.{Reaches, reaches_none, reaches_both}
 use Rattle.vcd_part.specs.declared.request.Request.{Request}
 use Rattle.vcd_part.specs.PartPieces.{is_change_of, is_up_to_first, is_within, first_pieces, stamp_in_part}
 use Rattle.vcd_part.specs.PartPieces.{last_stamp, stamp_pieces}
-use Rattle.vcd_text.specs.Pieces.{stamp_line}
+use Rattle.vcd_copy.specs.Pieces.{stamp_line}
 use Rattle.vcd_part.proofs.laws.states.Windows.{IsInOrder, upto_is, upto_from, within_is, not_within_is}
 use Rattle.vcd_part.proofs.laws.signals.SignalValues.{last_with, last_passes, of_last}
 use Rattle.vcd_part.proofs.laws.states.PartStates.{at, in_part, change_again}

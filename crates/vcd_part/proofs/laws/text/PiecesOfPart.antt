@@ -13,15 +13,15 @@ use Rattle.vcd_text.specs.Items.{Item, entry, timescale, scope, upscope, variabl
 use Rattle.vcd_text.specs.Items.{vector, real_or_string, dump_word, other}
 use Rattle.vcd_text.specs.Grammar.{ParseState, VariableDeclaration, Allows, AllowsAll, state_after_item}
 use Rattle.vcd_text.specs.Grammar.{declaration_of}
-use Rattle.vcd_text.specs.Pieces.{Piece, state_of_pieces}
-use Rattle.vcd_text.specs.Copied.{piece_items, may_be_amended}
+use Rattle.vcd_copy.specs.Pieces.{Piece, state_of_pieces}
+use Rattle.vcd_copy.specs.Copied.{piece_items, may_be_amended}
 use Rattle.vcd_text.specs.declared.reading.choice.TickRange.{TickRange}
 use Rattle.vcd_text.proofs.shared.ItemTests.{has_tick}
 use Rattle.vcd_part.specs.declared.request.Request.{Request}
 use Rattle.vcd_part.specs.declared.request.Refusal.{Refusal}
 use Rattle.vcd_part.specs.Requests.{keeps, decide}
 use Rattle.vcd_part.specs.PartPieces.{first_pieces, last_such, on_own_line, comment_piece, bounded_count}
-use Rattle.vcd_text.specs.Pieces.{stamp_line}
+use Rattle.vcd_copy.specs.Pieces.{stamp_line}
 use Rattle.vcd_part.specs.PartPieces.{stamp_in_part, last_stamp, stamp_pieces, body_in_part, ended_in_part, is_used}
 use Rattle.vcd_part.specs.PartPieces.{declaration_in_part, pieces_after_state, part_after, ended_pieces}
 use Rattle.vcd_part.specs.PartPieces.{is_up_to_first, is_within, is_change_of, lasting_codes, kept_count, all_count}

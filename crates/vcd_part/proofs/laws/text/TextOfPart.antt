@@ -11,17 +11,17 @@ use Rattle.vcd_text.specs.Items.{Item, entry, timescale, scope, upscope, variabl
 use Rattle.vcd_text.specs.Items.{vector, real_or_string, dump_word, other, spellings}
 use Rattle.vcd_text.specs.Grammar.{ParseState, AllowsAll, initial_state, word_texts, state_after_item}
 use Rattle.vcd_text.specs.Grammar.{declaration_of}
-use Rattle.vcd_text.specs.Pieces.{Piece, IsCut, state_of_pieces}
-use Rattle.vcd_text.specs.Copied.{piece_items}
+use Rattle.vcd_copy.specs.Pieces.{Piece, IsCut, state_of_pieces}
+use Rattle.vcd_copy.specs.Copied.{piece_items}
 use Rattle.vcd_text.specs.declared.reading.choice.TickRange.{TickRange}
 use Rattle.vcd_text.proofs.read_back.Words.{is_unbroken}
 use Rattle.vcd_text.proofs.read_back.WholeText.{one_word, longer_unbroken, decimal_unbroken}
-use Rattle.vcd_text.proofs.pieces.Bytes.{texts_are, joined_words}
-use Rattle.vcd_text.proofs.pieces.Cuts.{SpellsItem, SpaceIsWhite, HasSomeSpace}
-use Rattle.vcd_text.proofs.shared.SpelledItems.{bytes_spell}
+use Rattle.vcd_copy.proofs.pieces.Bytes.{texts_are, joined_words}
+use Rattle.vcd_copy.proofs.pieces.Cuts.{SpellsItem, SpaceIsWhite, HasSomeSpace}
+use Rattle.vcd_copy.proofs.shared.SpelledItems.{bytes_spell}
 use Rattle.vcd_part.specs.declared.request.Request.{Request}
 use Rattle.vcd_part.specs.PartPieces.{part_after, part_pieces, pieces_of_step, on_own_line}
-use Rattle.vcd_text.specs.Pieces.{piece_bytes}
+use Rattle.vcd_copy.specs.Pieces.{piece_bytes}
 use Rattle.vcd_part.specs.PartPieces.{ended_in_part}
 use Rattle.vcd_part.specs.declared.request.Refusal.{Refusal}
 use Rattle.vcd_part.specs.Requests.{keeps, decide}

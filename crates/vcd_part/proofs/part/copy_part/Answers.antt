@@ -1,6 +1,6 @@
 use Rattle.std.proofs.Common.{◌∙◌, subst}
 use Rattle.std.proofs.lemmas.Option.{IfSome_then}
-use Rattle.vcd_text.specs.Copied.{IsCopy}
+use Rattle.vcd_copy.specs.Copied.{IsCopy}
 use Rattle.vcd_text.specs.declared.reading.TheConstants.{VARIABLE_LIMIT}
 use Rattle.vcd_part.specs.inside.PartCopy.{part_rules}
 use Rattle.vcd_part.proofs.part.CopiedParts.{copied_by_part_rules}

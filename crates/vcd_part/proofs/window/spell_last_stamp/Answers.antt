@@ -1,7 +1,7 @@
 use Rattle.std.proofs.Common.{◌≡◌, ◌∙◌, ◌∷◌, [], ◌-◌, ◌<◌, Bool, true, false, sym, ap, arith, max, nat_lt}
 use Rattle.std.proofs.Common.{if◌then◌else◌}
 use Rattle.std.proofs.lemmas.Result.{on_ok_weaker}
-use Rattle.vcd_text.specs.Pieces.{piece_bytes, stamp_line}
+use Rattle.vcd_copy.specs.Pieces.{piece_bytes, stamp_line}
 use Rattle.vcd_part.specs.inside.PartCopy.{waiting_after}
 use Rattle.vcd_part.proofs.amender.Decided.{one_stands}
 use Rattle.vcd_part.proofs.shared.PutPieces.{later_line}

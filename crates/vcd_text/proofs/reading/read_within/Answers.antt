@@ -10,7 +10,7 @@ use Rattle.vcd_text.specs.Parts.{PartMeans}
 use Rattle.vcd_text.specs.Refusals.{IsRefusal}
 use Rattle.vcd_text.specs.inside.reading.Part.{asked_by}
 use Rattle.vcd_text.proofs.part.WholeParts.{loaded_is_sound}
-use Rattle.vcd_text.proofs.reading.file_reader.Chunks.{at_end, of_all, is_no_file_failure, consumes_none}
+use Rattle.vcd_text.proofs.shared.Chunks.{at_end, of_all, is_no_file_failure, consumes_none}
 use Rattle.vcd_text.proofs.reading.read_within.Goals as goal
 use Rattle.vcd_text.proofs.shared.FailedResults.{err_is}
 

@@ -12,7 +12,7 @@ use Rattle.vcd_text.specs.Items.{Item}
 use Rattle.vcd_text.specs.inside.writing.Transitions.{Transition, transition_of, last_tick, new_stamp, transition_items}
 use Rattle.vcd_text.specs.inside.writing.Transitions.{transitions_from, items_of_ticks}
 use Rattle.vcd_text.specs.Text.{differing, differs_at, item_line, with_stamp, value_items}
-use Rattle.vcd_text.proofs.writing.output.Pieces.{prefix_begun}
+use Rattle.vcd_text.proofs.shared.EmittedParts.{prefix_begun}
 
 -- the items of transitions after the stamp of a tick, and the stamp of the end
 abbrev pub items_left : List SignalContents → ℕ → ℕ → List Transition → List Item

@@ -11,8 +11,8 @@ use Rattle.vcd_text.specs.Text.{first_items, item_line, text}
 use Rattle.vcd_text.specs.inside.writing.Transitions.{items_of_ticks}
 use Rattle.vcd_text.specs.inside.writing.Declarations.{declarations_text}
 use Rattle.vcd_text.specs.EmittedText.{HasEmitted, Emits}
-use Rattle.vcd_text.proofs.writing.output.Pieces.{whole_text, failed_prefix, flushed_whole, whole_written, writes_as}
-use Rattle.vcd_text.proofs.writing.output.Pieces.{writes_both}
+use Rattle.vcd_text.proofs.shared.EmittedParts.{whole_text, failed_prefix, flushed_whole, whole_written, writes_as}
+use Rattle.vcd_text.proofs.shared.EmittedParts.{writes_both}
 use Rattle.vcd_text.proofs.writing.write.Goals as goal
 
 -- the whole text is written

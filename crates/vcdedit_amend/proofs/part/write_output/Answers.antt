@@ -5,9 +5,9 @@ use Rattle.vcdedit_amend.specs.CommandLine.{options_in}
 use Rattle.vcdedit_amend.proofs.part.write_output.Goals as goal
 
 pub returns-in-Some : goal.returns-in-Some
-returns-in-Some g c = c.write_to_file.ensures (options_in c.args.options.now)
+returns-in-Some g c = c.write_to_file.ensures (options_in c.args.part.now.job.options.now)
     c.requires.no_script (ap option_copied c.in-Some.is)
 
 pub returns-in-None : goal.returns-in-None
-returns-in-None g c = c.write_to_standard.ensures (options_in c.args.options.now)
+returns-in-None g c = c.write_to_standard.ensures (options_in c.args.part.now.job.options.now)
     c.requires.no_script

@@ -1,20 +1,13 @@
 -- An error ends it.
-use Rattle.vcdedit_amend.proofs.part.Outcomes.{changed_since, ends_with, refused, refused_first}
+use Rattle.vcdedit_amend.proofs.part.Outcomes.{ends_with, refused, refused_first}
 use Rattle.vcdedit_amend.proofs.part.write_to_file.Goals as goal
 
 pub returns-in_err-check_first : goal.returns-in_err-check_first
 returns-in_err-check_first g c = λ o script output.
-    ends_with o c.args.request c.from_residual-in_err-check_first.result c.in_err-check_first.field-0.0
+    ends_with o c.args.part.now.request c.from_residual-in_err-check_first.result c.in_err-check_first.field-0.0
     c.from_residual-in_err-check_first.ensures.1 (refused_first o _ _ c.in_err-check_first.ensures)
 
 pub returns-in_err-written : goal.returns-in_err-written
 returns-in_err-written g c = λ o script output.
-    ends_with o c.args.request c.from_residual-in_err-written.result c.in_err-written.field-0.0
+    ends_with o c.args.part.now.request c.from_residual-in_err-written.result c.in_err-written.field-0.0
     c.from_residual-in_err-written.ensures.1 (refused o _ _ _ _ c.in_err-written.ensures.taken)
-
-pub returns-in_err-refuse_replaced : goal.returns-in_err-refuse_replaced
-returns-in_err-refuse_replaced g c = λ o script output.
-    ends_with o c.args.request c.from_residual-in_err-refuse_replaced.result c.in_err-refuse_replaced.field-0.0
-    c.from_residual-in_err-refuse_replaced.ensures.1
-    (changed_since o c.args.request _ _ c.in_ok-written.written _ c.in_ok-written.ensures.taken
-    c.in_err-refuse_replaced.ensures.fault)

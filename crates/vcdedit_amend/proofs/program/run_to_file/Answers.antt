@@ -4,25 +4,18 @@ use Rattle.vcdedit_amend.proofs.program.Outcomes.{failed, written_to, changed}
 use Rattle.vcdedit_amend.proofs.program.run_to_file.Goals as goal
 
 pub returns-in_err-summary : goal.returns-in_err-summary
-returns-in_err-summary g c =
-    failed c.args.mark c.args.depth _ _ _ _ (Some c.args.path.now) _ c.in_err-summary.field-0.0 _ refl
-    c.in_err-summary.ensures.ends c.in_err-summary.ensures.remarked c.from_residual-in_err-summary.ensures.1
+returns-in_err-summary g c = λ path.
+    failed c.args.job.now.mark c.args.job.now.options.now.depth _ _ _ _ (Some path) _ c.in_err-summary.field-0.0 _ refl
+    c.in_err-summary.ensures.ends c.in_err-summary.ensures.remarked c.from_residual.ensures.1
 
 pub returns-in_err-refuse_changed : goal.returns-in_err-refuse_changed
-returns-in_err-refuse_changed g c =
-    written_to c.args.mark c.args.depth _ _ _ _ c.args.path.now _ c.in_ok-summary.summary _
+returns-in_err-refuse_changed g c = λ path.
+    written_to c.args.job.now.mark c.args.job.now.options.now.depth _ _ _ _ path _ c.in_ok-summary.summary _
     c.in_ok-summary.ensures.ends c.in_ok-summary.ensures.remarked
-    (changed (Some c.args.path.now) c.in_ok-summary.summary _ c.in_err-refuse_changed.field-0.0
+    (changed (Some path) c.in_ok-summary.summary _ c.in_err-refuse_changed.field-0.0
     c.from_residual-in_err-refuse_changed.ensures.1 c.in_err-refuse_changed.ensures.fault)
 
-pub returns-in_err-refuse_replaced : goal.returns-in_err-refuse_replaced
-returns-in_err-refuse_replaced g c =
-    written_to c.args.mark c.args.depth _ _ _ _ c.args.path.now _ c.in_ok-summary.summary _
-    c.in_ok-summary.ensures.ends c.in_ok-summary.ensures.remarked
-    (changed (Some c.args.path.now) c.in_ok-summary.summary _ c.in_err-refuse_replaced.field-0.0
-    c.from_residual-in_err-refuse_replaced.ensures.1 c.in_err-refuse_replaced.ensures.fault)
-
 pub returns : goal.returns
-returns g c =
-    written_to c.args.mark c.args.depth _ _ _ _ c.args.path.now _ c.in_ok-summary.summary _
+returns g c = λ path.
+    written_to c.args.job.now.mark c.args.job.now.options.now.depth _ _ _ _ path _ c.in_ok-summary.summary _
     c.in_ok-summary.ensures.ends c.in_ok-summary.ensures.remarked (inl refl)

@@ -1,6 +1,6 @@
 use Rattle.std.proofs.Common.{◌≡◌, ◌∙◌, ◌&&◌, ◌++◌, [], Bool, true, false, refl, sym, ap, ap₂, if◌then◌else◌, not}
 use Rattle.std.specs.List.{flat_map}
-use Rattle.vcd_text.specs.Pieces.{Piece}
+use Rattle.vcd_copy.specs.Pieces.{Piece}
 use Rattle.vcd_text.specs.Text.{item_line}
 use Rattle.vcd_text.proofs.shared.EmittedParts.{writes_as}
 use Rattle.vcd_amend.specs.Amendment.{is_used}

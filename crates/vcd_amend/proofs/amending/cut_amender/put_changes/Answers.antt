@@ -1,6 +1,6 @@
 use Rattle.std.proofs.Common.{◌≡◌, ◌∙◌, ◌++◌, ◌∷◌, [], refl, sym, ap, subst, take, arith, append_assoc}
 use Rattle.std.proofs.lemmas.List.{append-nil, take_all}
-use Rattle.vcd_text.specs.Copied.{copied_pieces}
+use Rattle.vcd_copy.specs.Copied.{copied_pieces}
 use Rattle.vcd_text.proofs.shared.EmittedParts.{writes_as, writes_both, writes_none}
 use Rattle.vcd_amend.specs.AmendmentContents.{amendment_contents}
 use Rattle.vcd_amend.specs.AmendedCopy.{amendment_rules}

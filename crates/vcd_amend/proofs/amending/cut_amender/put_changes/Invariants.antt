@@ -1,8 +1,8 @@
 -- The changes passed are written.
 use Rattle.std.proofs.Common.{◌≡◌, ◌++◌, List, take}
-use Rattle.vcd_text.specs.Copied.{copied_pieces}
+use Rattle.vcd_copy.specs.Copied.{copied_pieces}
 use Rattle.vcd_text.specs.EmittedText.{Emits}
-use Rattle.vcd_text.specs.Pieces.{Piece}
+use Rattle.vcd_copy.specs.Pieces.{Piece}
 use Rattle.vcd_amend.specs.inside.amending.FileAmender.{HasSeen}
 use Rattle.vcd_amend.specs.inside.amending.HeldChanges.{ArePieces}
 use Rattle.vcd_amend.specs.inside.amending.CutAmender.{rules_of}

@@ -1,10 +1,10 @@
 use Rattle.std.proofs.Common.{◌∙◌, ◌++◌, ◌∷◌, [], Bool, refl, sym, ap, subst, decimal, arith, if◌then◌else◌}
 use Rattle.std.proofs.lemmas.List.{append-nil}
-use Rattle.vcd_text.specs.Copied.{copied_pieces}
+use Rattle.vcd_copy.specs.Copied.{copied_pieces}
 use Rattle.vcd_text.proofs.read_back.Decimals.{number_of-decimal}
 use Rattle.vcd_text.proofs.shared.EmittedParts.{writes_as, writes_none, more_none}
 use Rattle.vcd_amend.specs.AmendmentContents.{amendment_contents}
-use Rattle.vcd_text.specs.Pieces.{stamp_line}
+use Rattle.vcd_copy.specs.Pieces.{stamp_line}
 use Rattle.vcd_amend.specs.inside.amending.FileAmender.{HasSeen}
 use Rattle.vcd_amend.specs.inside.amending.CutAmender.{rules_of}
 use Rattle.vcd_amend.proofs.amending.SeenItems.{before_state, before_none}

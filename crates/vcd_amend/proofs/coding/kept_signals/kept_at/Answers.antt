@@ -1,7 +1,7 @@
 use Rattle.std.proofs.Common.{◌∙◌, length, map, ap, arith}
 use Rattle.std.proofs.lemmas.List.{length-map}
 use Rattle.vcd_core.specs.CaptureContents.{contents, signal_contents}
-use Rattle.vcd_amend.specs.AmendedRun.{signal_from}
+use Rattle.vcd_core.specs.SignalOrigins.{signal_from}
 use Rattle.vcd_amend.proofs.coding.KeptSignals.{come_long, come_width, left_width}
 use Rattle.vcd_amend.proofs.coding.kept_signals.kept_at.Goals as goal
 

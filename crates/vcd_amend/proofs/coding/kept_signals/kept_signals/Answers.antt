@@ -8,7 +8,7 @@ use Rattle.vcd_core.specs.CaptureContents.{contents}
 use Rattle.vcd_core.specs.Contents.{SignalContents, no_signal}
 use Rattle.vcd_text.specs.Grammar.{is_skipped, kept_variables, VariableDeclaration}
 use Rattle.vcd_amend.specs.declared.coding.kept_signal.KeptSignal.{KeptSignal}
-use Rattle.vcd_amend.specs.AmendedRun.{signal_from}
+use Rattle.vcd_core.specs.SignalOrigins.{signal_from}
 use Rattle.vcd_amend.specs.DeclaredVariables.{declaration_of_variable}
 use Rattle.vcd_amend.specs.inside.coding.KeptSignals.{kept_signals, kept_signal}
 use Rattle.vcd_amend.specs.inside.coding.ChangedWaves.{kept_contents}

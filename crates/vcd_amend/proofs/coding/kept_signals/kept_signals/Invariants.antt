@@ -3,7 +3,7 @@ use Rattle.std.specs.List.{range_with_len}
 use Rattle.vcd_core.specs.CaptureContents.{contents}
 use Rattle.vcd_text.specs.Grammar.{kept_variables}
 use Rattle.vcd_amend.specs.DeclaredVariables.{declaration_of_variable}
-use Rattle.vcd_amend.specs.AmendedRun.{signal_from}
+use Rattle.vcd_core.specs.SignalOrigins.{signal_from}
 use Rattle.vcd_amend.specs.inside.coding.KeptSignals.{kept_signals}
 use Rattle.vcd_amend.specs.inside.coding.ChangedWaves.{kept_contents}
 use Rattle.vcd_amend.proofs.coding.kept_signals.kept_signals.Given as goal

@@ -1,7 +1,7 @@
 use Rattle.std.proofs.Common.{suc, None, List, ◌∷◌, ◌++◌, All, ap, sym, subst, ◌∙◌, arith}
 use Rattle.vcd_core.specs.declared.bit_edges.BitEdge.{BitEdge}
 use Rattle.vcd_decode.specs.inside.i2c_bus.BusWalk.{edge_events, walk_annotations, IsBusEdge}
-use Rattle.vcd_decode.proofs.i2c_bus.bus_walk.EventByEvent.{all_found}
+use Rattle.vcd_decode.proofs.shared.EventByEvent.{all_found}
 use Rattle.vcd_decode.proofs.i2c_bus.bus_walk.annotations_of.Goals as goal
 
 pub loop-edge-init : goal.loop-edge-init

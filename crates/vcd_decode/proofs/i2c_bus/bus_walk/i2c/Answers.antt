@@ -3,7 +3,7 @@ use Rattle.vcd_decode.specs.declared.annotation.Annotation.{Annotation}
 use Rattle.vcd_decode.specs.WaveLines.{line_of}
 use Rattle.vcd_decode.specs.BusEvents.{bus_events}
 use Rattle.vcd_decode.specs.inside.i2c_bus.BusWalk.{walk_annotations, edge_events, IsBusEdge}
-use Rattle.vcd_decode.proofs.i2c_bus.bus_walk.EventByEvent.{events_are, each_is_bus_edge, walk_is}
+use Rattle.vcd_decode.proofs.shared.EventByEvent.{events_are, each_is_bus_edge, walk_is}
 use Rattle.vcd_decode.proofs.i2c_bus.bus_walk.i2c.Goals as goal
 
 pub annotations_of-requires : goal.annotations_of-requires

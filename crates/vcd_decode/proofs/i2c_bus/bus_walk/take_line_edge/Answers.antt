@@ -1,6 +1,6 @@
 use Rattle.std.proofs.Common.{sym, ◌∙◌}
 use Rattle.vcd_decode.specs.inside.i2c_bus.BusWalk.{edge_event}
-use Rattle.vcd_decode.proofs.i2c_bus.bus_walk.EventByEvent.{event_taken}
+use Rattle.vcd_decode.proofs.shared.EventByEvent.{event_taken}
 use Rattle.vcd_decode.proofs.i2c_bus.bus_walk.take_line_edge.Goals as goal
 
 pub returns-in-Some-clause-annotations : goal.returns-in-Some-clause-annotations

@@ -1,8 +1,8 @@
 use Rattle.std.proofs.Common.{◌≡◌, ◌∙◌, ◌∷◌, [], ◌++◌, sym, ap, Some, refl}
 use Rattle.std.specs.Prelude.{Ok, Err}
 use Rattle.vcd_text.specs.Grammar.{ParseState}
-use Rattle.vcd_text.specs.Pieces.{piece_bytes, state_of_pieces}
-use Rattle.vcd_text.specs.Copied.{may_be_amended}
+use Rattle.vcd_copy.specs.Pieces.{piece_bytes, state_of_pieces}
+use Rattle.vcd_copy.specs.Copied.{may_be_amended}
 use Rattle.vcd_text.proofs.shared.EmittedParts.{writes_as, writes_both, writes_none}
 use Rattle.vcd_part.specs.PartPieces.{comment_piece}
 use Rattle.vcd_part.specs.inside.PartAmender.{window_of, refusal_of}

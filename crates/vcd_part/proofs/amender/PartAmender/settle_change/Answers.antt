@@ -2,8 +2,8 @@ use Rattle.std.proofs.Common.{◌≡◌, ◌∙◌, ◌∷◌, [], ◌++◌, Boo
 use Rattle.std.proofs.lemmas.Bool.{eqb-true}
 use Rattle.std.proofs.lemmas.List.{nil_from_length}
 use Rattle.vcd_text.specs.Grammar.{ParseState}
-use Rattle.vcd_text.specs.Pieces.{Piece, piece_bytes, state_of_pieces}
-use Rattle.vcd_text.specs.declared.copying.amender.InPlace.TheVariants as places
+use Rattle.vcd_copy.specs.Pieces.{Piece, piece_bytes, state_of_pieces}
+use Rattle.vcd_copy.specs.declared.copying.amender.InPlace.TheVariants as places
 use Rattle.vcd_part.specs.PartPieces.{pieces_of_step}
 use Rattle.vcd_part.specs.inside.PartCopy.{settled_after, waiting_stamp}
 use Rattle.vcd_part.proofs.amender.States.{next_some}

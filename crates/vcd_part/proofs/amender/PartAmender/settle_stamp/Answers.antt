@@ -2,11 +2,11 @@ use Rattle.std.proofs.Common.{◌≡◌, ◌∙◌, ◌≤◌, ◌<◌, ◌⊎�
 use Rattle.std.specs.Prelude.{Ok}
 use Rattle.vcd_text.specs.Items.{stamp}
 use Rattle.vcd_text.specs.Grammar.{ParseState, Allows}
-use Rattle.vcd_text.specs.Pieces.{state_of_pieces}
-use Rattle.vcd_text.specs.Copied.{may_be_amended}
+use Rattle.vcd_copy.specs.Pieces.{state_of_pieces}
+use Rattle.vcd_copy.specs.Copied.{may_be_amended}
 use Rattle.vcd_part.specs.PartPieces.{is_up_to_first, pieces_of_step}
 use Rattle.vcd_part.proofs.laws.states.Windows.{decided_in_order}
-use Rattle.vcd_text.proofs.shared.StatesOfPieces.{at_limit}
+use Rattle.vcd_copy.proofs.shared.StatesOfPieces.{at_limit}
 use Rattle.vcd_part.proofs.amender.States.{later_stamp, next_allowed}
 use Rattle.vcd_part.proofs.amender.Steps.{stamp_seen}
 use Rattle.vcd_part.proofs.amender.Decided.{answer_with_window, window_means_body, pieces_in_body, stamp_pieces_are}

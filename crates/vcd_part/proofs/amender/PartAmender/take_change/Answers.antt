@@ -1,6 +1,6 @@
 use Rattle.std.proofs.Common.{◌∙◌, ◌∷◌, [], Bool, ℕ, List, sym, ap, subst, ◌<◌, length, if◌then◌else◌}
 use Rattle.vcd_text.specs.Grammar.{ParseState}
-use Rattle.vcd_text.specs.Pieces.{state_of_pieces}
+use Rattle.vcd_copy.specs.Pieces.{state_of_pieces}
 use Rattle.vcd_text.proofs.shared.EmittedParts.{writes_as, writes_none, more_none}
 use Rattle.vcd_part.specs.inside.PartCopy.{waiting_stamp}
 use Rattle.vcd_part.proofs.amender.States.{next_some}

@@ -4,8 +4,8 @@ use Rattle.std.proofs.lemmas.Bool.{and_parts}
 use Rattle.std.proofs.lemmas.Result.{on_ok_weaker, on_err_weaker}
 use Rattle.vcd_text.specs.Items.{Item}
 use Rattle.vcd_text.specs.Grammar.{ParseState}
-use Rattle.vcd_text.specs.Pieces.{state_of_pieces}
-use Rattle.vcd_text.specs.Copied.{may_be_amended}
+use Rattle.vcd_copy.specs.Pieces.{state_of_pieces}
+use Rattle.vcd_copy.specs.Copied.{may_be_amended}
 use Rattle.vcd_text.proofs.shared.EmittedParts.{writes_as, writes_none, more_both}
 use Rattle.vcd_part.specs.PartPieces.{body_in_part, is_up_to_first, pieces_of_step, stamp_pieces}
 use Rattle.vcd_part.specs.inside.PartCopy.{waiting_stamp}

@@ -1,8 +1,8 @@
 use Rattle.std.proofs.Common.{◌∙◌, ap, sym, refl}
 use Rattle.vcd_core.specs.Decimal.{is_number, number_of}
-use Rattle.vcd_text.specs.Pieces.{piece_bytes, state_of_pieces}
+use Rattle.vcd_copy.specs.Pieces.{piece_bytes, state_of_pieces}
 use Rattle.vcd_text.specs.Grammar.{ParseState}
-use Rattle.vcd_text.specs.Copied.{may_be_amended}
+use Rattle.vcd_copy.specs.Copied.{may_be_amended}
 use Rattle.vcd_text.proofs.shared.EmittedParts.{writes_as, more_none}
 use Rattle.vcd_part.proofs.amender.NextVariable.{words_next, declared_by, same_scopes, variable_bytes, variable_seen}
 use Rattle.vcd_part.proofs.amender.NextVariable.{before_body}

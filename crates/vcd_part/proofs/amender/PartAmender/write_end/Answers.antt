@@ -1,6 +1,6 @@
 use Rattle.std.proofs.Common.{◌≡◌, ◌∙◌, ◌++◌, List, sym, ap}
 use Rattle.std.proofs.lemmas.List.{append-nil}
-use Rattle.vcd_text.specs.Pieces.{Piece, piece_bytes, state_of_pieces}
+use Rattle.vcd_copy.specs.Pieces.{Piece, piece_bytes, state_of_pieces}
 use Rattle.vcd_text.proofs.shared.EmittedParts.{writes_as}
 use Rattle.vcd_part.specs.PartPieces.{first_pieces}
 use Rattle.vcd_part.specs.inside.PartCopy.{waiting_stamp, last_settled}

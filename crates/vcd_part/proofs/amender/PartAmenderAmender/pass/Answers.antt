@@ -1,5 +1,5 @@
 use Rattle.std.proofs.Common.{◌∙◌, refl, sym, ap}
-use Rattle.vcd_text.specs.Pieces.{piece_bytes, state_of_pieces}
+use Rattle.vcd_copy.specs.Pieces.{piece_bytes, state_of_pieces}
 use Rattle.vcd_part.specs.inside.PartCopy.{waiting_stamp}
 use Rattle.vcd_part.proofs.amender.Comments.{counted_passed}
 use Rattle.vcd_part.proofs.amender.States.{next_allowed, next_some}

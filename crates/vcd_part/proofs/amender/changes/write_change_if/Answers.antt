@@ -1,5 +1,5 @@
 use Rattle.std.proofs.Common.{◌∙◌, ◌∷◌, [], ◌++◌, Bool, List, sym, ap, if◌then◌else◌, ℕ}
-use Rattle.vcd_text.specs.Pieces.{piece_bytes}
+use Rattle.vcd_copy.specs.Pieces.{piece_bytes}
 use Rattle.vcd_text.proofs.shared.EmittedParts.{writes_as, writes_both}
 use Rattle.vcd_part.proofs.amender.Decided.{one_stands}
 use Rattle.vcd_part.proofs.shared.PutPieces.{none_put, put_as, bytes_of_both}

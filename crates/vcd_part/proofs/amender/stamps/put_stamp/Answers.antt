@@ -3,7 +3,7 @@ use Rattle.std.proofs.Common.{if◌then◌else◌}
 use Rattle.std.proofs.lemmas.Bool.{lt-ltb, le-leb}
 use Rattle.std.proofs.Math.Bool.{and-false}
 use Rattle.std.proofs.lemmas.Result.{on_ok_weaker}
-use Rattle.vcd_text.specs.Pieces.{piece_bytes}
+use Rattle.vcd_copy.specs.Pieces.{piece_bytes}
 use Rattle.vcd_text.proofs.shared.EmittedParts.{writes_as, writes_none}
 use Rattle.vcd_part.specs.PartPieces.{stamp_in_part, last_stamp}
 use Rattle.vcd_part.proofs.amender.Decided.{ltb_from, leb_from}

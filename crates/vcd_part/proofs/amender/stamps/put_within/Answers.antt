@@ -1,6 +1,6 @@
 use Rattle.std.proofs.Common.{◌∙◌, ◌∷◌, [], ◌<◌, ◌++◌, sym, ap, arith}
 use Rattle.std.proofs.lemmas.Result.{on_ok_weaker}
-use Rattle.vcd_text.specs.Pieces.{Piece, piece_bytes}
+use Rattle.vcd_copy.specs.Pieces.{Piece, piece_bytes}
 use Rattle.vcd_text.proofs.shared.EmittedParts.{writes_as, writes_both, writes_none}
 use Rattle.vcd_part.specs.PartPieces.{stamp_in_part}
 use Rattle.vcd_part.specs.inside.PartCopy.{settled_after, waiting_after}

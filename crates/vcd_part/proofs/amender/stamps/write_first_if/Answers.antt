@@ -1,5 +1,5 @@
 use Rattle.std.proofs.Common.{◌∙◌, [], Bool, sym, ap, if◌then◌else◌}
-use Rattle.vcd_text.specs.Pieces.{piece_bytes}
+use Rattle.vcd_copy.specs.Pieces.{piece_bytes}
 use Rattle.vcd_text.proofs.shared.EmittedParts.{writes_as}
 use Rattle.vcd_part.specs.PartPieces.{first_pieces}
 use Rattle.vcd_part.proofs.amender.Waiting.{first_pieces_settle}

@@ -3,7 +3,7 @@ use Rattle.std.specs.List.{flat_map}
 use Rattle.std.proofs.lemmas.Fmt.{decimal_digit}
 use Rattle.vcd_text.proofs.shared.EmittedParts.{writes_as, writes_both, writes_more}
 use Rattle.vcd_part.specs.PartPieces.{lasting_codes}
-use Rattle.vcd_text.specs.Pieces.{piece_bytes}
+use Rattle.vcd_copy.specs.Pieces.{piece_bytes}
 use Rattle.vcd_part.specs.inside.FirstValues.{lines_of}
 use Rattle.vcd_part.proofs.code_uses.FirstPieces.{lines_are, pieces_of}
 use Rattle.vcd_part.proofs.code_uses.CodeUses.write_first.Goals as goal

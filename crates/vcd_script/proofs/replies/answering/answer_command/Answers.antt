@@ -4,7 +4,7 @@ use Rattle.std.proofs.lemmas.Result.{IfOk-weaker}
 use Rattle.vcd_script.specs.declared.script.command.Command.{Command}
 use Rattle.vcd_script.specs.declared.script.command.Command.TheVariants as commands
 use Rattle.vcd_script.specs.inside.replies.Answering.{AnswersStep, AnswersCommand}
-use Rattle.vcd_script.proofs.replies.AnsweredLines.{command_steps}
+use Rattle.vcd_script.proofs.shared.AnsweredLines.{command_steps}
 use Rattle.vcd_script.proofs.replies.answering.answer_command.Goals as goal
 
 pub returns-in-Step-clause-answers : goal.returns-in-Step-clause-answers

@@ -2,7 +2,7 @@ use Rattle.std.proofs.Common.{Err, List, ℕ, refl, subst}
 use Rattle.std.proofs.lemmas.Result.{IfOk-weaker}
 use Rattle.vcd_script.specs.SessionLines.{AnswersLine, IsReplyTo}
 use Rattle.vcd_script.specs.inside.replies.Answering.{AnswersCommand}
-use Rattle.vcd_script.proofs.replies.AnsweredLines.{line_asks, line_stays}
+use Rattle.vcd_script.proofs.shared.AnsweredLines.{line_asks, line_stays}
 use Rattle.vcd_script.proofs.replies.answering.answer_line.Goals as goal
 
 pub returns-in-Ok-clause-answers : goal.returns-in-Ok-clause-answers

@@ -1,4 +1,4 @@
-use Rattle.vcd_script.proofs.replies.AnsweredLines.{step_accepted}
+use Rattle.vcd_script.proofs.shared.AnsweredLines.{step_accepted}
 use Rattle.vcd_script.proofs.replies.answering.answer_step.Goals as goal
 
 pub returns-in-Ok-clause-answers : goal.returns-in-Ok-clause-answers

@@ -1,6 +1,6 @@
 use Rattle.std.proofs.Common.{Some, None, inl, inr, refl}
-use Rattle.vcd_script.proofs.running.PartsOfRun.{run_reaches_end, run_stops_at_output, given_or_none, ends_with}
-use Rattle.vcd_script.proofs.running.PartsOfRun.{ends_with_writer}
+use Rattle.vcd_script.proofs.shared.PartsOfRun.{run_reaches_end, run_stops_at_output, given_or_none, ends_with}
+use Rattle.vcd_script.proofs.shared.PartsOfRun.{ends_with_writer}
 use Rattle.vcd_script.proofs.running.run.run.Goals as goal
 
 pub returns-in_err-session-clause-ends : goal.returns-in_err-session-clause-ends

@@ -2,9 +2,9 @@ use Rattle.std.proofs.Common.{refl}
 use Rattle.vcd_core.specs.CaptureContents.{contents}
 use Rattle.vcd_core.specs.Devices.{device_end}
 use Rattle.vcd_script.specs.declared.running.run_error.RunError.TheVariants as run_errors
-use Rattle.vcd_script.proofs.running.PartsOfRun.{script_gives_where_known, capture_ends, script_ends, lines_end}
-use Rattle.vcd_script.proofs.running.PartsOfRun.{at_error, flushed_at_script}
-use Rattle.vcd_script.proofs.running.PartsOfRun.{file_means, is_accepted, session_ends, flushed_at_line}
+use Rattle.vcd_script.proofs.shared.PartsOfRun.{script_gives_where_known, capture_ends, script_ends, lines_end}
+use Rattle.vcd_script.proofs.shared.PartsOfRun.{at_error, flushed_at_script}
+use Rattle.vcd_script.proofs.shared.PartsOfRun.{file_means, is_accepted, session_ends, flushed_at_line}
 use Rattle.vcd_script.proofs.running.run.run_script.Goals as goal
 
 pub returns-in_err-loaded-clause-ended : goal.returns-in_err-loaded-clause-ended

@@ -1,4 +1,4 @@
-use Rattle.vcd_script.proofs.running.PartsOfRun.{at_error}
+use Rattle.vcd_script.proofs.shared.PartsOfRun.{at_error}
 use Rattle.vcd_script.proofs.running.run_lines.run_line.Goals as goal
 
 pub returns-in_err-write_reply-in-Ok-clause-stopped : goal.returns-in_err-write_reply-in-Ok-clause-stopped

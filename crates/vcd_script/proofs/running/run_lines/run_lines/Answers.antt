@@ -1,8 +1,8 @@
 -- The replies so far, with that of one more line, or with none where the lines end.
 use Rattle.std.proofs.Common.{arith, rules}
 use Rattle.std.proofs.KnownBytes.{Appends-kept}
-use Rattle.vcd_script.proofs.running.PartsOfRun.{at_error}
-use Rattle.vcd_script.proofs.running.LinesLeft.{reply_more, none_left, no_lines, line_stops, flush_stops}
+use Rattle.vcd_script.proofs.shared.PartsOfRun.{at_error}
+use Rattle.vcd_script.proofs.shared.LinesLeft.{reply_more, none_left, no_lines, line_stops, flush_stops}
 use Rattle.vcd_script.proofs.running.run_lines.run_lines.Goals as goal
 
 pub loop-line-preserved : goal.loop-line-preserved

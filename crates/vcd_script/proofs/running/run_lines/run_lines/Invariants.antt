@@ -1,6 +1,6 @@
 use Rattle.std.proofs.Common.{◌≡◌, ◌+◌, ◌*◌, ◌^◌, ◌≤◌, false, length}
 use Rattle.vcd_script.specs.Script.{script_lines}
-use Rattle.vcd_script.proofs.running.LinesLeft.{RepliesSoFar}
+use Rattle.vcd_script.proofs.shared.LinesLeft.{RepliesSoFar}
 use Rattle.vcd_script.proofs.running.run_lines.run_lines.Given as goal
 
 abbrev pub invariant-loop-line : goal.invariant-loop-line

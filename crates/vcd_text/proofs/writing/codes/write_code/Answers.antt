@@ -1,7 +1,7 @@
 -- Each turn writes the lowest digit of the rest.
 use Rattle.std.proofs.Common.{refl, arith}
 use Rattle.vcd_text.proofs.shared.CodesDiffer.{lowest_digit, no_digits}
-use Rattle.vcd_text.proofs.writing.output.Pieces.{prefix_begun, prefix_grows, prefix_whole}
+use Rattle.vcd_text.proofs.shared.EmittedParts.{prefix_begun, prefix_grows, prefix_whole}
 use Rattle.vcd_text.proofs.writing.codes.write_code.Goals as goal
 
 pub loop-left-init : goal.loop-left-init

@@ -1,6 +1,6 @@
 -- The written bytes and the digits of the rest are the code.
 use Rattle.vcd_text.specs.Text.{code_of, code_digits}
-use Rattle.vcd_text.proofs.writing.output.Pieces.{WritesPrefix}
+use Rattle.vcd_text.proofs.shared.EmittedParts.{WritesPrefix}
 use Rattle.vcd_text.proofs.writing.codes.write_code.Given as goal
 
 abbrev pub invariant-loop-left : goal.invariant-loop-left

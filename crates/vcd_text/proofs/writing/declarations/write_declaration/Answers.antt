@@ -1,6 +1,6 @@
 -- The keyword, the words and the end are the item.
 use Rattle.std.proofs.Common.{[], ◌∷◌, codes}
-use Rattle.vcd_text.proofs.writing.output.Pieces.{writes_item, writes_words}
+use Rattle.vcd_text.proofs.shared.EmittedParts.{writes_item, writes_words}
 use Rattle.vcd_text.proofs.writing.declarations.write_declaration.Goals as goal
 
 pub returns : goal.returns

@@ -6,7 +6,7 @@ use Rattle.vcd_core.specs.declared.capture.Signal.{Signal}
 use Rattle.vcd_core.specs.CaptureContents.{signal_contents}
 use Rattle.vcd_text.specs.Text.{item_line, signal_items, timescale_items}
 use Rattle.vcd_text.specs.inside.writing.Declarations.{header_items}
-use Rattle.vcd_text.proofs.writing.output.Pieces.{writes_as, writes_both}
+use Rattle.vcd_text.proofs.shared.EmittedParts.{writes_as, writes_both}
 use Rattle.vcd_text.proofs.writing.declarations.write_declarations.Goals as goal
 
 pub returns : goal.returns

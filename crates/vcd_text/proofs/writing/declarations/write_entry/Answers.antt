@@ -1,7 +1,7 @@
 -- The keyword, the words and the end are the line.
 use Rattle.std.proofs.Common.{◌∙◌}
 use Rattle.vcd_text.specs.Items.{header_word}
-use Rattle.vcd_text.proofs.writing.output.Pieces.{writes_line, writes_as}
+use Rattle.vcd_text.proofs.shared.EmittedParts.{writes_line, writes_as}
 use Rattle.vcd_text.proofs.writing.declarations.write_entry.Goals as goal
 
 pub returns : goal.returns

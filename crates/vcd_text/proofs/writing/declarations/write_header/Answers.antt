@@ -4,7 +4,7 @@ use Rattle.std.specs.List.{flat_map}
 use Rattle.vcd_core.specs.declared.capture.Header.{Header}
 use Rattle.vcd_text.specs.Text.{item_line}
 use Rattle.vcd_text.specs.inside.writing.Declarations.{header_items}
-use Rattle.vcd_text.proofs.writing.output.Pieces.{prefix_item}
+use Rattle.vcd_text.proofs.shared.EmittedParts.{prefix_item}
 use Rattle.vcd_text.proofs.writing.declarations.write_header.Goals as goal
 
 pub loop-one-preserved : goal.loop-one-preserved

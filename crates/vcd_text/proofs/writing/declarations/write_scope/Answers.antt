@@ -1,7 +1,7 @@
 -- The keyword, the words and the end are the line.
 use Rattle.std.proofs.Common.{[], ◌∷◌, ap, codes}
 use Rattle.vcd_text.specs.inside.writing.Lines.{spaced_words}
-use Rattle.vcd_text.proofs.writing.output.Pieces.{writes_line, writes_words, writes_as}
+use Rattle.vcd_text.proofs.shared.EmittedParts.{writes_line, writes_words, writes_as}
 use Rattle.vcd_text.proofs.writing.declarations.write_scope.Goals as goal
 
 pub returns : goal.returns

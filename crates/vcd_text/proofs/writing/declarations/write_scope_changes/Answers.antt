@@ -2,7 +2,7 @@
 use Rattle.std.proofs.Common.{arith}
 use Rattle.std.proofs.lemmas.Grind.{flat_map-append}
 use Rattle.std.proofs.lemmas.List.{length-drop, take_all}
-use Rattle.vcd_text.proofs.writing.output.Pieces.{writes_as, writes_both}
+use Rattle.vcd_text.proofs.shared.EmittedParts.{writes_as, writes_both}
 use Rattle.vcd_text.proofs.writing.declarations.write_scope_changes.Goals as goal
 
 pub returns : goal.returns

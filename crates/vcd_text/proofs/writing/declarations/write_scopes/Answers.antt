@@ -4,7 +4,7 @@ use Rattle.std.specs.List.{flat_map}
 use Rattle.vcd_core.specs.declared.capture.ScopeName.{ScopeName}
 use Rattle.vcd_text.specs.Items.{scope}
 use Rattle.vcd_text.specs.Text.{item_line}
-use Rattle.vcd_text.proofs.writing.output.Pieces.{prefix_item}
+use Rattle.vcd_text.proofs.shared.EmittedParts.{prefix_item}
 use Rattle.vcd_text.proofs.writing.declarations.write_scopes.Goals as goal
 
 pub loop-name-preserved : goal.loop-name-preserved

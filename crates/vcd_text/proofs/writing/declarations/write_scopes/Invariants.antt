@@ -3,7 +3,7 @@ use Rattle.std.proofs.Common.{drop, map}
 use Rattle.std.specs.List.{flat_map}
 use Rattle.vcd_text.specs.Items.{scope}
 use Rattle.vcd_text.specs.Text.{item_line}
-use Rattle.vcd_text.proofs.writing.output.Pieces.{WritesPrefix}
+use Rattle.vcd_text.proofs.shared.EmittedParts.{WritesPrefix}
 use Rattle.vcd_text.proofs.writing.declarations.write_scopes.Given as goal
 
 abbrev pub invariant-loop-name : goal.invariant-loop-name

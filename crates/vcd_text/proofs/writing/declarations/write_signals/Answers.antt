@@ -1,7 +1,7 @@
 -- Each turn changes the scopes and declares one signal.
 use Rattle.std.proofs.Common.{refl, arith}
 use Rattle.vcd_text.proofs.shared.ScopePaths.{one_declared, all_declared}
-use Rattle.vcd_text.proofs.writing.output.Pieces.{prefix_begun, prefix_grows, prefix_whole, writes_both}
+use Rattle.vcd_text.proofs.shared.EmittedParts.{prefix_begun, prefix_grows, prefix_whole, writes_both}
 use Rattle.vcd_text.proofs.writing.declarations.write_signals.Goals as goal
 
 pub loop-position-init : goal.loop-position-init

@@ -3,7 +3,7 @@ use Rattle.std.proofs.Common.{[], drop, map}
 use Rattle.std.specs.List.{flat_map}
 use Rattle.vcd_core.specs.CaptureContents.{signal_contents}
 use Rattle.vcd_text.specs.Text.{item_line, signal_items}
-use Rattle.vcd_text.proofs.writing.output.Pieces.{WritesPrefix}
+use Rattle.vcd_text.proofs.shared.EmittedParts.{WritesPrefix}
 use Rattle.vcd_text.proofs.writing.declarations.write_signals.Given as goal
 
 abbrev pub invariant-loop-position : goal.invariant-loop-position

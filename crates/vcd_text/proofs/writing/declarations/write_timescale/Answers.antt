@@ -6,7 +6,7 @@ use Rattle.std.proofs.lemmas.List.{append-nil}
 use Rattle.vcd_core.specs.TimeUnits.{unit_text}
 use Rattle.vcd_text.specs.Text.{item_line, timescale_items}
 use Rattle.vcd_text.specs.inside.writing.Lines.{spaced_words}
-use Rattle.vcd_text.proofs.writing.output.Pieces.{writes_line, writes_words, writes_as}
+use Rattle.vcd_text.proofs.shared.EmittedParts.{writes_line, writes_words, writes_as}
 use Rattle.vcd_text.proofs.writing.declarations.write_timescale.Goals as goal
 
 pub returns-in-Some : goal.returns-in-Some

@@ -4,7 +4,7 @@ use Rattle.std.specs.List.{flat_map}
 use Rattle.vcd_text.specs.Items.{upscope}
 use Rattle.vcd_text.specs.Text.{item_line}
 use Rattle.vcd_text.proofs.shared.ScopePaths.{one_closed}
-use Rattle.vcd_text.proofs.writing.output.Pieces.{prefix_begun, prefix_grows, prefix_whole}
+use Rattle.vcd_text.proofs.shared.EmittedParts.{prefix_begun, prefix_grows, prefix_whole}
 use Rattle.vcd_text.proofs.writing.declarations.write_upscopes.Goals as goal
 
 pub loop-closed-init : goal.loop-closed-init

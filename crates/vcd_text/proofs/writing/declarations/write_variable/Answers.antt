@@ -4,7 +4,7 @@ use Rattle.std.specs.Prelude.{decimal}
 use Rattle.std.proofs.lemmas.List.{append-nil}
 use Rattle.vcd_text.specs.Text.{code_of}
 use Rattle.vcd_text.specs.inside.writing.Lines.{spaced_words}
-use Rattle.vcd_text.proofs.writing.output.Pieces.{writes_line, writes_words, writes_as, writes_both}
+use Rattle.vcd_text.proofs.shared.EmittedParts.{writes_line, writes_words, writes_as, writes_both}
 use Rattle.vcd_text.proofs.writing.declarations.write_variable.Goals as goal
 
 pub returns : goal.returns

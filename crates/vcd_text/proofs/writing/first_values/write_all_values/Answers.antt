@@ -6,7 +6,7 @@ use Rattle.vcd_core.specs.declared.capture.Signal.{Signal}
 use Rattle.vcd_core.specs.CaptureContents.{signal_contents}
 use Rattle.vcd_core.specs.Wave.{value_at}
 use Rattle.vcd_text.specs.Text.{code_of, item_line, value_item, value_items}
-use Rattle.vcd_text.proofs.writing.output.Pieces.{prefix_grows, prefix_whole}
+use Rattle.vcd_text.proofs.shared.EmittedParts.{prefix_grows, prefix_whole}
 use Rattle.vcd_text.proofs.writing.first_values.write_all_values.Goals as goal
 
 -- the lines of the signals from a position on

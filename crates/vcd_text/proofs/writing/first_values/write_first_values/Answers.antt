@@ -1,7 +1,7 @@
 -- The stamp, the two words and the values between them are the items.
 use Rattle.std.proofs.Common.{arith}
 use Rattle.std.proofs.lemmas.Grind.{flat_map-append}
-use Rattle.vcd_text.proofs.writing.output.Pieces.{writes_as, writes_both}
+use Rattle.vcd_text.proofs.shared.EmittedParts.{writes_as, writes_both}
 use Rattle.vcd_text.proofs.writing.first_values.write_first_values.Goals as goal
 
 pub returns : goal.returns

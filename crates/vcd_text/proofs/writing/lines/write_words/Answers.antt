@@ -2,7 +2,7 @@
 use Rattle.std.proofs.Common.{[], ◌∷◌, ◌+◌, drop, ap}
 use Rattle.std.proofs.lemmas.Grind.{flat_map-append}
 use Rattle.vcd_text.specs.inside.writing.Lines.{spaced_words}
-use Rattle.vcd_text.proofs.writing.output.Pieces.{prefix_item, writes_as}
+use Rattle.vcd_text.proofs.shared.EmittedParts.{prefix_item, writes_as}
 use Rattle.vcd_text.proofs.writing.lines.write_words.Goals as goal
 
 pub loop-word-preserved : goal.loop-word-preserved

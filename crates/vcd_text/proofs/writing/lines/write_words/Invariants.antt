@@ -1,7 +1,7 @@
 -- The words passed are written.
 use Rattle.std.proofs.Common.{drop}
 use Rattle.vcd_text.specs.inside.writing.Lines.{spaced_words}
-use Rattle.vcd_text.proofs.writing.output.Pieces.{WritesPrefix}
+use Rattle.vcd_text.proofs.shared.EmittedParts.{WritesPrefix}
 use Rattle.vcd_text.proofs.writing.lines.write_words.Given as goal
 
 abbrev pub invariant-loop-word : goal.invariant-loop-word

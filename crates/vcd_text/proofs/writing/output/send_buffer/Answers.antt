@@ -1,7 +1,7 @@
 -- The unsent bytes are the rest of the text.
 use Rattle.std.proofs.Common.{[], sym, ap, drop, refl, ◌∙◌}
 use Rattle.std.proofs.lemmas.List.{append-nil}
-use Rattle.vcd_text.proofs.writing.output.Pieces.{bytes_sent}
+use Rattle.vcd_text.proofs.shared.EmittedParts.{bytes_sent}
 use Rattle.vcd_text.proofs.writing.output.send_buffer.Goals as goal
 
 pub returns-clause-written : goal.returns-clause-written

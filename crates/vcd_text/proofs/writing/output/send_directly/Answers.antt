@@ -1,7 +1,7 @@
 -- If nothing waits, the part is the rest of the text.
 use Rattle.std.proofs.Common.{◌++◌, ap, refl, ◌∙◌}
 use Rattle.std.proofs.lemmas.List.{drop-append-le}
-use Rattle.vcd_text.proofs.writing.output.Pieces.{bytes_sent}
+use Rattle.vcd_text.proofs.shared.EmittedParts.{bytes_sent}
 use Rattle.vcd_text.proofs.writing.output.send_directly.Goals as goal
 
 pub returns-clause-written : goal.returns-clause-written

@@ -1,6 +1,6 @@
 -- `#`, the digits and a line feed are the line.
 use Rattle.std.proofs.Common.{◌∙◌}
-use Rattle.vcd_text.proofs.writing.output.Pieces.{writes_as, writes_both}
+use Rattle.vcd_text.proofs.shared.EmittedParts.{writes_as, writes_both}
 use Rattle.vcd_text.proofs.writing.stamps.write_stamp.Goals as goal
 
 pub returns : goal.returns

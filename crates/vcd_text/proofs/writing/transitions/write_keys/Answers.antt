@@ -5,7 +5,7 @@ use Rattle.vcd_core.specs.CaptureContents.{signal_contents}
 use Rattle.vcd_text.specs.Text.{code_of, item_line, value_item}
 use Rattle.vcd_text.specs.declared.writing.window.TheConstants.{POSITIONS}
 use Rattle.vcd_text.proofs.writing.window.WindowOrder.{value_there, none_written, one_later, one_written}
-use Rattle.vcd_text.proofs.writing.output.Pieces.{prefix_begun, prefix_grows, prefix_whole, writes_as, writes_both}
+use Rattle.vcd_text.proofs.shared.EmittedParts.{prefix_begun, prefix_grows, prefix_whole, writes_as, writes_both}
 use Rattle.vcd_text.proofs.writing.transitions.write_keys.Goals as goal
 
 pub loop-k-init : goal.loop-k-init

@@ -5,7 +5,7 @@ use Rattle.vcd_core.specs.CaptureContents.{signal_contents}
 use Rattle.vcd_text.specs.Text.{item_line}
 use Rattle.vcd_text.specs.inside.writing.Transitions.{last_tick, transition_items}
 use Rattle.vcd_text.specs.inside.writing.Window.{transitions_of}
-use Rattle.vcd_text.proofs.writing.output.Pieces.{WritesPrefix}
+use Rattle.vcd_text.proofs.shared.EmittedParts.{WritesPrefix}
 use Rattle.vcd_text.proofs.writing.transitions.write_keys.Given as goal
 
 abbrev pub invariant-loop-k : goal.invariant-loop-k

@@ -3,7 +3,7 @@ use Rattle.std.proofs.Common.{◌≤◌, ◌+◌, map, refl, arith, ap, ◌∙�
 use Rattle.vcd_core.specs.CaptureContents.{signal_contents}
 use Rattle.vcd_text.specs.inside.writing.Window.{transitions_of}
 use Rattle.vcd_text.proofs.writing.transitions.ItemsOfTicks.{end_left, window_written}
-use Rattle.vcd_text.proofs.writing.output.Pieces.{prefix_grows, prefix_whole}
+use Rattle.vcd_text.proofs.shared.EmittedParts.{prefix_grows, prefix_whole}
 use Rattle.std.proofs.lemmas.List.{with_items_is}
 use Rattle.vcd_text.proofs.writing.transitions.write_transitions.Goals as goal
 

@@ -6,7 +6,7 @@ use Rattle.vcd_text.specs.Text.{item_line}
 use Rattle.vcd_text.specs.inside.writing.Transitions.{items_of_ticks, transitions_from}
 use Rattle.vcd_text.specs.inside.writing.Window.{IsReady}
 use Rattle.vcd_text.proofs.writing.transitions.ItemsOfTicks.{items_left}
-use Rattle.vcd_text.proofs.writing.output.Pieces.{WritesPrefix}
+use Rattle.vcd_text.proofs.shared.EmittedParts.{WritesPrefix}
 use Rattle.vcd_text.proofs.writing.transitions.write_transitions.Given as goal
 
 abbrev pub invariant-loop-from : goal.invariant-loop-from

@@ -1,6 +1,6 @@
 -- The part before the code, and the code, are the words.
 use Rattle.vcd_text.proofs.writing.values.ShortForm.{words_of_value}
-use Rattle.vcd_text.proofs.writing.output.Pieces.{writes_as, writes_both}
+use Rattle.vcd_text.proofs.shared.EmittedParts.{writes_as, writes_both}
 use Rattle.vcd_text.proofs.writing.values.write_change.Goals as goal
 
 pub returns : goal.returns

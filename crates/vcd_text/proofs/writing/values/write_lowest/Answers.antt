@@ -3,7 +3,7 @@ use Rattle.std.proofs.Common.{◌-◌, ◌*◌, ◌/◌, ℕ, refl, arith}
 use Rattle.std.proofs.lemmas.List.{drop_all}
 use Rattle.vcd_text.specs.Letters.{printed_letters}
 use Rattle.vcd_text.proofs.writing.values.LetterBits.{lowest, block_and_rest}
-use Rattle.vcd_text.proofs.writing.output.Pieces.{prefix_begun, prefix_grows, prefix_whole}
+use Rattle.vcd_text.proofs.shared.EmittedParts.{prefix_begun, prefix_grows, prefix_whole}
 use Rattle.vcd_text.proofs.writing.values.write_lowest.Goals as goal
 
 pub loop-left-init : goal.loop-left-init

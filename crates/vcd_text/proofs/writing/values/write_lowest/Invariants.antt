@@ -1,7 +1,7 @@
 -- The written letters and those that are left are those of the value.
 use Rattle.std.proofs.Common.{◌≤◌, length}
 use Rattle.vcd_text.specs.Letters.{printed_letters}
-use Rattle.vcd_text.proofs.writing.output.Pieces.{WritesPrefix}
+use Rattle.vcd_text.proofs.shared.EmittedParts.{WritesPrefix}
 use Rattle.vcd_text.proofs.writing.values.LetterBits.{lowest}
 use Rattle.vcd_text.proofs.writing.values.write_lowest.Given as goal
 

@@ -4,7 +4,7 @@ use Rattle.vcd_core.specs.Value.{printed_letter}
 use Rattle.vcd_text.specs.Letters.{printed_letters}
 use Rattle.vcd_text.proofs.writing.values.LetterBits.{held_letter}
 use Rattle.vcd_text.proofs.writing.values.ShortForm.{bit_before_code, bits_before_code}
-use Rattle.vcd_text.proofs.writing.output.Pieces.{writes_as, writes_both}
+use Rattle.vcd_text.proofs.shared.EmittedParts.{writes_as, writes_both}
 use Rattle.vcd_text.proofs.writing.values.write_value_prefix.Goals as goal
 
 pub returns-then-width-eq1 : goal.returns-then-width-eq1

@@ -3,8 +3,8 @@ use Rattle.std.specs.List.{filter}
 use Rattle.vcd_amend.specs.Retimed.{change_key, counts_with, has_kept_variable}
 use Rattle.vcd_amend.specs.inside.amending.HeldChanges.{last_held, ArePieces, key_of}
 use Rattle.std.proofs.lemmas.List.{append-nil}
-use Rattle.vcd_text.specs.Copied.{copied_pieces}
-use Rattle.vcd_text.specs.Pieces.{state_of_pieces}
+use Rattle.vcd_copy.specs.Copied.{copied_pieces}
+use Rattle.vcd_copy.specs.Pieces.{state_of_pieces}
 use Rattle.vcd_amend.specs.declared.amending.cut_amender.CodeVariables.{CodeVariables}
 use Rattle.vcd_text.proofs.shared.EmittedParts.{writes_as, writes_none, more_none}
 use Rattle.vcd_amend.specs.inside.amending.FileAmender.{HasSeen}

@@ -2,8 +2,8 @@ use Rattle.std.proofs.Common.{◌∙◌, ◌≤◌, ◌<◌, ◌^◌, ◌++◌, 
 use Rattle.std.proofs.Common.{if◌then◌else◌}
 use Rattle.std.proofs.lemmas.List.{append-nil}
 use Rattle.vcd_core.specs.Decimal.{number_of}
-use Rattle.vcd_text.specs.Copied.{copied_pieces}
-use Rattle.vcd_text.specs.Pieces.{state_of_pieces}
+use Rattle.vcd_copy.specs.Copied.{copied_pieces}
+use Rattle.vcd_copy.specs.Pieces.{state_of_pieces}
 use Rattle.vcd_text.proofs.shared.EmittedParts.{writes_as, writes_both, writes_more, more_both}
 use Rattle.vcd_amend.specs.AmendmentContents.{amendment_contents}
 use Rattle.vcd_amend.specs.AmendedCopy.{amendment_rules}

@@ -1,7 +1,7 @@
 use Rattle.std.proofs.Common.{subst, List}
 use Rattle.std.proofs.lemmas.Result.{on_ok_weaker}
 use Rattle.vcd_text.specs.EmittedText.{Emits}
-use Rattle.vcd_text.specs.Copied.{copied_pieces}
+use Rattle.vcd_copy.specs.Copied.{copied_pieces}
 use Rattle.vcd_amend.specs.RetimedCopy.{is_cut_by}
 use Rattle.vcd_amend.specs.declared.cut_ticks.CutTicks.{CutTicks}
 use Rattle.vcd_amend.specs.inside.amending.CutAmender.{rules_of, sent_for, step_for}

@@ -1,8 +1,8 @@
 use Rattle.std.proofs.Common.{◌≡◌, ◌∙◌, ◌++◌, sym, ap, subst}
 use Rattle.std.specs.Global.{Vec}
 use Rattle.std.proofs.lemmas.Result.{on_ok_weaker, on_err_weaker}
-use Rattle.vcd_text.specs.Copied.{copied_pieces}
-use Rattle.vcd_text.specs.Pieces.{state_of_pieces}
+use Rattle.vcd_copy.specs.Copied.{copied_pieces}
+use Rattle.vcd_copy.specs.Pieces.{state_of_pieces}
 use Rattle.vcd_text.proofs.shared.EmittedParts.{writes_as, writes_both, writes_more, more_both}
 use Rattle.vcd_amend.specs.AmendmentContents.{amendment_contents}
 use Rattle.vcd_amend.specs.AmendedCopy.{amendment_rules}

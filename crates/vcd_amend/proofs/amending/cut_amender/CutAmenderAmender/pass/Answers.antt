@@ -1,6 +1,6 @@
 use Rattle.std.proofs.Common.{◌∙◌, refl, sym}
 use Rattle.vcd_text.specs.Grammar.{state_after_item}
-use Rattle.vcd_text.specs.Pieces.{state_of_pieces}
+use Rattle.vcd_copy.specs.Pieces.{state_of_pieces}
 use Rattle.vcd_amend.specs.AmendmentContents.{amendment_contents}
 use Rattle.vcd_amend.specs.inside.amending.CutAmender.{sent_for, cut_of}
 use Rattle.vcd_amend.proofs.amending.SeenItems.{seen_more, other_passes, before_state, before_none}

@@ -1,5 +1,5 @@
 use Rattle.std.proofs.Common.{◌∙◌, ◌++◌, ◌∷◌, [], Bool, true, false, refl, sym, ap, subst, if◌then◌else◌}
-use Rattle.vcd_text.specs.Copied.{copied_pieces}
+use Rattle.vcd_copy.specs.Copied.{copied_pieces}
 use Rattle.vcd_amend.specs.inside.amending.FileAmender.{HasSeen}
 use Rattle.vcd_amend.specs.inside.amending.HeldChanges.{IsChangePiece}
 use Rattle.vcd_amend.specs.inside.amending.CutAmender.{rules_of, sent_for, cut_of}

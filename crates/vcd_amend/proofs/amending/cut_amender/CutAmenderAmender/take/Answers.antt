@@ -7,8 +7,8 @@ use Rattle.vcd_core.specs.declared.capture.ScopeName.{ScopeName}
 use Rattle.vcd_text.specs.Items.{Item, end_definitions}
 use Rattle.vcd_text.specs.Grammar.{ParseState, state_after_item, is_skipped}
 use Rattle.vcd_text.specs.Text.{item_line}
-use Rattle.vcd_text.specs.Pieces.{state_of_pieces}
-use Rattle.vcd_text.specs.Copied.{copied_pieces, may_be_amended}
+use Rattle.vcd_copy.specs.Pieces.{state_of_pieces}
+use Rattle.vcd_copy.specs.Copied.{copied_pieces, may_be_amended}
 use Rattle.vcd_text.proofs.shared.EmittedParts.{writes_as, more_none}
 use Rattle.vcd_amend.specs.Amendment.{fate_of}
 use Rattle.vcd_amend.specs.AmendmentContents.{amendment_contents}
@@ -19,7 +19,7 @@ use Rattle.vcd_amend.specs.Retimed.{lasts, has_kept_variable}
 use Rattle.vcd_amend.specs.RetimedLaws.{is_neither}
 use Rattle.vcd_amend.specs.inside.amending.FileAmender.{declared_in, with_declared, piece_of_variable}
 use Rattle.vcd_amend.specs.inside.amending.CutAmender.{rules_of, sent_for, held_for, cut_of}
-use Rattle.vcd_text.proofs.shared.StatesOfPieces.{at_any_limit}
+use Rattle.vcd_copy.proofs.shared.StatesOfPieces.{at_any_limit}
 use Rattle.vcd_amend.proofs.declarations.collector.Collected.{next_variable}
 use Rattle.vcd_amend.proofs.amending.SeenItems.{before_state, before_none, seen_more, stamp_is_later, end_passes}
 use Rattle.vcd_amend.proofs.amending.CutPieces.{one_copied, plain_is, key_of_value, key_of_text, on_error}

@@ -5,7 +5,7 @@ use Rattle.vcd_amend.specs.declared.amendment.AddedVariable.{AddedVariable}
 use Rattle.vcd_amend.specs.AmendmentContents.{code_contents, added_contents}
 use Rattle.vcd_amend.specs.inside.amending.CodeUses.{amended_index}
 use Rattle.vcd_amend.specs.inside.amending.DueChanges.{AreDueFrom, due_transition}
-use Rattle.vcd_amend.proofs.amending.Variables.{any_added, any_has, first_progress}
+use Rattle.vcd_amend.proofs.shared.Variables.{any_added, any_has, first_progress}
 use Rattle.vcd_amend.proofs.amending.file_amender.FileAmender.new.Goals as goal
 
 pub returns : goal.returns

@@ -7,7 +7,7 @@ use Rattle.vcd_core.specs.declared.value.TheConstants.{WIDTH_LIMIT}
 use Rattle.vcd_text.specs.Items.{variable, spelling}
 use Rattle.vcd_text.specs.Grammar.{is_skipped}
 use Rattle.vcd_text.specs.inside.reading.CodeTargets.{code_target}
-use Rattle.vcd_text.specs.VariableWords.{IsVariable}
+use Rattle.vcd_copy.specs.VariableWords.{IsVariable}
 use Rattle.vcd_text.proofs.shared.EmittedParts.{writes_as, writes_more}
 use Rattle.vcd_amend.specs.Amendment.{fate_of}
 use Rattle.vcd_amend.specs.AmendedItems.{declaration_fate}
@@ -21,7 +21,7 @@ use Rattle.std.specs.Prelude.{slice_index_or}
 use Rattle.vcd_amend.specs.inside.amending.FileAmender.{declared_in, piece_of_variable, fate_contents_first}
 use Rattle.vcd_amend.specs.inside.amending.VariableLeft.{fate_of_left, has_left}
 use Rattle.vcd_amend.proofs.amending.Values.{lent_each, lent_length}
-use Rattle.vcd_amend.proofs.amending.Variables.{at_variable, fate_first, has_left_is, amended_within}
+use Rattle.vcd_amend.proofs.shared.Variables.{at_variable, fate_first, has_left_is, amended_within}
 use Rattle.vcd_amend.proofs.amending.file_amender.FileAmender.take_variable.Goals as goal
 
 pub note_variable-requires : goal.note_variable-requires

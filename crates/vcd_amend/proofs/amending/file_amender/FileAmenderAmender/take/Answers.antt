@@ -3,7 +3,7 @@ use Rattle.std.proofs.Common.{if◌then◌else◌, not, length}
 use Rattle.std.specs.List.{flat_map}
 use Rattle.vcd_text.specs.Items.{Item, end_definitions}
 use Rattle.vcd_text.specs.Grammar.{ParseState, state_after_item}
-use Rattle.vcd_text.specs.Pieces.{Piece}
+use Rattle.vcd_copy.specs.Pieces.{Piece}
 use Rattle.vcd_text.specs.Text.{item_line}
 use Rattle.vcd_text.proofs.shared.EmittedParts.{writes_as}
 use Rattle.vcd_amend.specs.Amendment.{is_used}
@@ -18,7 +18,7 @@ use Rattle.vcd_amend.proofs.amending.SeenItems.{end_passes}
 use Rattle.std.proofs.lemmas.Result.{on_ok_weaker}
 use Rattle.vcd_amend.specs.Amendment.{fate_of}
 use Rattle.vcd_amend.specs.AmendedItems.{declaration_fate}
-use Rattle.vcd_text.proofs.shared.StatesOfPieces.{at_any_limit}
+use Rattle.vcd_copy.proofs.shared.StatesOfPieces.{at_any_limit}
 use Rattle.vcd_amend.proofs.declarations.collector.Collected.{next_variable}
 use Rattle.vcd_amend.proofs.amending.file_amender.FileAmenderAmender.take.Goals as goal
 

@@ -3,8 +3,8 @@ use Rattle.vcd_text.specs.declared.fault.ReadError.{ReadError}
 use Rattle.vcd_text.specs.Words.{complete_words}
 use Rattle.vcd_text.specs.FoundFaults.{too_early}
 use Rattle.vcd_text.specs.inside.reading.Part.{asked_by, seen_state}
-use Rattle.vcd_text.proofs.reading.file_reader.Chunks.{last_taken, last_refused}
-use Rattle.vcd_text.proofs.reading.parser.NoWordLeft.{stops}
+use Rattle.vcd_text.proofs.shared.Chunks.{last_taken, last_refused}
+use Rattle.vcd_text.proofs.shared.NoWordLeft.{stops}
 use Rattle.vcd_text.proofs.shared.WordsByBytes.{complete_are_few, after_are_few}
 use Rattle.vcd_text.proofs.reading.file_reader.FileReader.finish.Goals as goal
 use Rattle.vcd_text.proofs.shared.FailedResults.{err_is}

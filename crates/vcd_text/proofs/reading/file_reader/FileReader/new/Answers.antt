@@ -1,4 +1,4 @@
-use Rattle.vcd_text.proofs.reading.file_reader.Chunks.{nothing_taken}
+use Rattle.vcd_text.proofs.shared.Chunks.{nothing_taken}
 use Rattle.vcd_text.proofs.reading.file_reader.FileReader.new.Goals as goal
 
 pub returns : goal.returns

@@ -2,7 +2,7 @@ use Rattle.std.proofs.Common.{◌++◌}
 use Rattle.std.proofs.Common.{arith}
 use Rattle.std.proofs.KnownBytes.{Consumes-trans}
 use Rattle.std.proofs.lemmas.List.{length-append}
-use Rattle.vcd_text.proofs.reading.file_reader.Chunks.{has_come, refused_early, is_no_failure, full, broken}
+use Rattle.vcd_text.proofs.shared.Chunks.{has_come, refused_early, is_no_failure, full, broken}
 use Rattle.vcd_text.proofs.reading.file_reader.FileReader.take_chunk.Goals as goal
 use Rattle.vcd_text.proofs.shared.FailedResults.{err_is}
 

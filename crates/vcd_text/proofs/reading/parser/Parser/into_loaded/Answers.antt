@@ -10,7 +10,7 @@ use Rattle.vcd_text.specs.Meaning.{meaning, declared_signal}
 use Rattle.vcd_text.specs.inside.reading.OpenItems.{is_nothing}
 use Rattle.vcd_text.specs.inside.reading.Part.{Asked, seen_state, seen_tick, remaining, listed_part}
 use Rattle.vcd_text.specs.inside.reading.Parser.{HasTakenWords}
-use Rattle.vcd_text.proofs.reading.parser.NoWordLeft.{accepts}
+use Rattle.vcd_text.proofs.shared.NoWordLeft.{accepts}
 use Rattle.vcd_text.proofs.part.LateChanges.{UpToTick, late_after}
 use Rattle.vcd_text.proofs.part.PartMeanings.{signals_of_part, asked_part_is}
 use Rattle.vcd_text.proofs.reading.parser.Parser.into_loaded.Goals as goal

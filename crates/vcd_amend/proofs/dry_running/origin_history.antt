@@ -1,2 +1,0 @@
--- Lemmas of `dry_running/origin_history`.
-pub mod NotesOfHistory

@@ -1,5 +1,0 @@
-use Rattle.vcd_amend.proofs.laws.NamedVariables as law
-use Rattle.vcd_amend.proofs.laws.named_variables_differ.Goals as goal
-
-pub returns : goal.returns
-returns c = law.named_variables_differ

@@ -1,2 +1,0 @@
--- Lemmas about new names.
-pub mod Outlines

@@ -1,3 +1,0 @@
--- Lemmas: bytes in memory amended by a script.
-pub mod EditedFile
-pub mod ResultOfRun

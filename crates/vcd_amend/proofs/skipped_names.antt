@@ -1,2 +1,0 @@
--- Lemmas about the names of skipped variables.
-pub mod Hashes

@@ -1,3 +1,0 @@
--- Inner definitions of `dry_running`.
-pub mod OriginHistory
-pub mod HeardLines

@@ -1,0 +1,2 @@
+-- Lemmas about runs that amend files.
+pub mod worked

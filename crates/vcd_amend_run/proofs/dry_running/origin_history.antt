@@ -1,0 +1,2 @@
+-- Lemmas of `origin_history`.
+pub mod NotesOfHistory

@@ -1,0 +1,3 @@
+-- Lemmas of `hearing`.
+pub mod PartWaves
+pub mod HollowParts

@@ -1,0 +1,4 @@
+-- Lemmas of `laws`.
+pub mod AmendedRuns
+pub mod EditedFiles
+pub mod NamedVariables

@@ -1,0 +1,165 @@
+-- A file on which the edits of a run are made in place means the last capture.
+use Rattle.std.proofs.Common.{◌≡◌, ℕ, zero, suc, Bool, true, false, if◌then◌else◌, List, [], ◌∷◌, ◌++◌}
+use Rattle.std.proofs.Common.{map, refl, ap, sym, subst, ◌∙◌, arith, IsTrue}
+use Rattle.std.specs.Prelude.{count_by, ◌==◌, length, decimal}
+use Rattle.std.proofs.lemmas.Bool.Decides.{nat_tests}
+use Rattle.vcd_core.specs.Decimal.{number_of}
+use Rattle.vcd_core.specs.declared.capture.TheConstants.{SIGNAL_LIMIT}
+use Rattle.vcd_core.specs.Contents.{Contents}
+use Rattle.vcd_text.specs.Words.{words_of}
+use Rattle.vcd_text.specs.Items.{Item, stamp, scalar, vector, real_or_string}
+use Rattle.vcd_text.specs.Grammar.{ParseState, initial_state, state_after, state_after_item, AllowsAll, Accepts}
+use Rattle.vcd_text.specs.Grammar.{is_skipped}
+use Rattle.vcd_text.specs.Meaning.{meaning, FileMeans}
+use Rattle.vcd_amend.specs.WhatStands.{may_go, may_come, BecomesText}
+use Rattle.vcd_copy.specs.Pieces.{Piece, IsCut, state_of_pieces}
+use Rattle.vcd_amend.specs.Retimed.{new_tick, retimed_signal, retimed_pieces, retimed_fate, pieces_in_place, is_past}
+use Rattle.vcd_amend.specs.Retimed.{change_key, held_with}
+use Rattle.vcd_amend.specs.AmendedItems.{stands, is_exchanged}
+use Rattle.vcd_amend.specs.RetimedLaws.{is_in_cut, tick_before_cut, pieces_after, bytes_of, MeansRetimed}
+use Rattle.vcd_amend.specs.RetimedLaws.{CanBeRetimed}
+use Rattle.vcd_text.proofs.shared.SoundMeaning.{meaning_is_sound}
+use Rattle.vcd_copy.proofs.pieces.Cuts.{file_is_cut}
+use Rattle.vcd_amend.proofs.retimed.NoCut.{none, all_stay, pieces_stay}
+use Rattle.vcd_amend.proofs.retimed.Ticks.{cuts_leave_ticks}
+use Rattle.vcd_amend.proofs.retimed.Meaning.{state_is}
+use Rattle.vcd_copy.proofs.shared.SpelledItems.{cut_spells_items}
+use Rattle.vcd_amend.proofs.retimed.Pieces.{retimed_is_meant}
+use Rattle.vcd_edit.specs.declared.edit.Edit.{Edit}
+use Rattle.vcd_edit.specs.declared.edit.Edit.TheVariants.{Cut}
+use Rattle.vcd_edit.specs.Effect.{effect}
+use Rattle.vcd_journal.specs.History.{replay}
+use Rattle.vcd_hollow.specs.Cuts.{cuts, tick_before_cuts, CutsFit}
+use Rattle.vcd_hollow.proofs.shared.Cuts.{cuts_are_one}
+use Rattle.vcd_hollow.specs.HollowRun.{last_edits, last_capture}
+use Rattle.vcd_amend_run.specs.AmendedRun.{IsAfterCuts}
+use Rattle.vcd_amend_run.specs.EditedText.{is_cut_out_by, edited_text, CutsInForceLeaveTicks}
+use Rattle.vcd_amend_run.specs.EditedText.{RetimedCaptureIsReplayOfCuts}
+use Rattle.vcd_amend_run.specs.EditedText.{AcceptedFileHasPieces, EditedTextMeansLastCapture}
+use Rattle.vcd_amend_run.specs.EditedText.{remaining_of_run, pieces_after_cuts, amendment_of_run}
+use Rattle.vcd_amend_run.specs.EditedText.{NoCutLeavesPieces}
+use Rattle.vcd_amend_run.proofs.laws.AmendedRuns.{amended_run_is_meant}
+use Rattle.vcd_hollow.proofs.shared.FittingCuts.{cuts_of_run_fit}
+
+-- ---- ticks
+
+pub cuts_in_force_leave_ticks : CutsInForceLeaveTicks
+unfolding is_cut_out_by tick_before_cuts CutsFit replay effect
+cuts_in_force_leave_ticks c [] fit = (record { left = λ t. refl; same = all_stay }, refl, all_stay c.end)
+cuts_in_force_leave_ticks c (Cut from to ∷ es) fit =
+    let before = cuts_in_force_leave_ticks c es fit.2 in
+    let one = cuts_leave_ticks.1 from to (replay c es).end (omega (arith, fit.0)) fit.1 in
+    let first : ℕ → Bool = is_cut_out_by es in
+    let later : ℕ → Bool = is_in_cut from to in (
+      cuts_leave_ticks.3 first later (tick_before_cut from to) (tick_before_cuts es) before.0
+          (cuts_leave_ticks.0 from to (omega (arith, fit.0))),
+      rw (before.1, before.2) one.0,
+      cuts_leave_ticks.2 first later c.end ∙ ap (new_tick later) before.2 ∙ one.1,
+    )
+cuts_in_force_leave_ticks c (e ∷ es) fit = cuts_in_force_leave_ticks c es fit
+
+pub retimed_is_replay : RetimedCaptureIsReplayOfCuts
+retimed_is_replay c es sound fit =
+    ap (λ (n : ℕ). record c { end = n; signals = map (retimed_signal (tick_before_cuts es) n) c.signals })
+    (cuts_in_force_leave_ticks c es fit).2
+    ∙ sym (cuts_are_one c es sound fit)
+
+-- ---- without a cut
+
+none_cut_out : (es : List Edit) → cuts es ≡ [] → is_cut_out_by es ≡ none
+unfolding is_cut_out_by cuts
+none_cut_out [] no_cut = refl
+none_cut_out (Cut from to ∷ es) no_cut = absurd (cc)
+none_cut_out (e ∷ es) no_cut = none_cut_out es no_cut
+
+pub no_cut_leaves_pieces : NoCutLeavesPieces
+no_cut_leaves_pieces es limit pieces no_cut =
+    ap (λ (f : ℕ → Bool). pieces_after f limit pieces) (none_cut_out es no_cut)
+    ∙ pieces_stay (initial_state limit) pieces
+
+-- ---- runs
+
+pub accepted_file_has_pieces : AcceptedFileHasPieces
+accepted_file_has_pieces file c skipped means =
+    let accepted : Accepts SIGNAL_LIMIT (words_of file) means.state = means.accepted in
+    let found = file_is_cut file accepted.items accepted.spelled in
+    let state : means.state ≡ state_of_pieces SIGNAL_LIMIT found.0 =
+    sym accepted.state_is ∙ sym (ap (state_after (initial_state SIGNAL_LIMIT)) found.3) in (
+      found.0,
+      found.1,
+      record {
+        cut = found.2;
+        allowed = subst (AllowsAll (initial_state SIGNAL_LIMIT)) (sym found.3) accepted.allowed;
+        in_body = subst (λ (s : ParseState). IsTrue s.in_body) state accepted.definitions_ended;
+        means = means.means ∙ ap meaning state;
+        left_out = means.left_out ∙ ap (λ (s : ParseState). count_by is_skipped s.declared) state;
+      },
+    )
+
+-- what the law says of the text
+abbrev IsMeant : List Piece → List ℕ → ℕ → List (List ℕ) → Contents → ℕ → Type 0
+IsMeant pieces tail depth lines c skipped =
+    FileMeans SIGNAL_LIMIT (edited_text c skipped depth lines pieces tail) (last_capture c skipped depth lines) skipped
+    × BecomesText (may_go (state_of_pieces SIGNAL_LIMIT (pieces_after_cuts c skipped depth lines pieces))
+    (remaining_of_run c skipped depth lines))
+    (may_come (amendment_of_run c skipped depth lines pieces) (last_capture c skipped depth lines).signals) tail
+    (initial_state SIGNAL_LIMIT) (pieces_after_cuts c skipped depth lines pieces)
+    (edited_text c skipped depth lines pieces tail)
+
+module _ (file : List ℕ) (pieces : List Piece) (tail : List ℕ) (depth : ℕ) (lines : List (List ℕ))
+    (cut : IsCut file pieces tail) (allowed : AllowsAll (initial_state SIGNAL_LIMIT) (map (λ p. p.item) pieces))
+    (in_body : IsTrue (state_of_pieces SIGNAL_LIMIT pieces).in_body)
+    (accepted : Accepts SIGNAL_LIMIT (words_of file) (state_of_pieces SIGNAL_LIMIT pieces)) where
+  abbrev s : ParseState
+  s = state_of_pieces SIGNAL_LIMIT pieces
+
+  abbrev skipped : ℕ
+  skipped = count_by is_skipped s.declared
+
+  abbrev es : List Edit
+  es = last_edits (meaning s) skipped depth lines
+
+  fit : CutsFit (meaning s) es
+  fit = cuts_of_run_fit (meaning s) skipped depth lines (length lines)
+
+  can : CanBeRetimed (is_cut_out_by es) (tick_before_cuts es) SIGNAL_LIMIT file pieces tail
+  can =
+      let ticks = cuts_in_force_leave_ticks (meaning s) es fit in
+      record { ticks = ticks.0; cut = cut; allowed = allowed; in_body = in_body; end = ticks.1 }
+
+  pub retimed : MeansRetimed (is_cut_out_by es) (tick_before_cuts es) SIGNAL_LIMIT s
+      (pieces_after (is_cut_out_by es) SIGNAL_LIMIT pieces) tail
+  retimed = retimed_is_meant (is_cut_out_by es) (tick_before_cuts es) SIGNAL_LIMIT file pieces tail can
+
+  -- the file after the cuts has the variables of the file
+  pub same_declared : (state_of_pieces SIGNAL_LIMIT (pieces_after (is_cut_out_by es) SIGNAL_LIMIT pieces)).declared
+      ≡ s.declared
+  same_declared = ap (λ (t : ParseState). t.declared)
+      (state_is (is_cut_out_by es) (tick_before_cuts es) SIGNAL_LIMIT file pieces tail can)
+
+  pub is_after_cuts : IsAfterCuts s
+      (state_of_pieces SIGNAL_LIMIT (pieces_after (is_cut_out_by es) SIGNAL_LIMIT pieces)) es
+  is_after_cuts = record {
+    means = retimed.means ∙ retimed_is_replay (meaning s) es (meaning_is_sound file s accepted) fit;
+    left_out = retimed.left_out;
+  }
+
+  state_is_meant : IsMeant pieces tail depth lines (meaning s) skipped
+  state_is_meant =
+      let after : List Piece = pieces_after (is_cut_out_by es) SIGNAL_LIMIT pieces in
+      amended_run_is_meant file s depth lines (bytes_of after tail) after tail accepted retimed.cut retimed.allowed
+      retimed.in_body is_after_cuts
+
+pub edited_text_is_meant : EditedTextMeansLastCapture
+edited_text_is_meant file pieces tail c skipped depth lines is =
+    let s : ParseState = state_of_pieces SIGNAL_LIMIT pieces in
+    let accepted : Accepts SIGNAL_LIMIT (words_of file) s = record {
+      items = map (λ p. p.item) pieces;
+      spelled = cut_spells_items file pieces tail is.cut;
+      allowed = is.allowed;
+      state_is = refl;
+      definitions_ended = is.in_body;
+    } in
+    subst (λ (d : Contents). IsMeant pieces tail depth lines d skipped) (sym is.means)
+    (subst (IsMeant pieces tail depth lines (meaning s)) (sym is.left_out)
+    (state_is_meant file pieces tail depth lines is.cut is.allowed is.in_body accepted))

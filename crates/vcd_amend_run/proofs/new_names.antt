@@ -1,0 +1,2 @@
+-- Lemmas of `new_names`.
+pub mod Outlines

@@ -1,0 +1,3 @@
+-- Lemmas of `on_bytes`.
+pub mod ResultOfRun
+pub mod EditedFile

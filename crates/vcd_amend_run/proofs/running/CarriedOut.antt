@@ -1,0 +1,198 @@
+-- The script carried out: its replies, and the text that the run gives.
+use Rattle.std.proofs.Common.{◌≡◌, ℕ, List, Option}
+use Rattle.std.proofs.Common.{refl, sym, subst, ap, ◌∙◌, Bool, true, false, map, length}
+use Rattle.std.specs.Prelude.{is_err, count_by}
+use Rattle.std.specs.List.{concat, enumerate_from}
+use Rattle.std.specs.Io.KnownBytes.{Appends}
+use Rattle.vcd_core.specs.declared.capture.TheConstants.{SIGNAL_LIMIT}
+use Rattle.vcd_core.specs.Contents.{Contents}
+use Rattle.vcd_text.specs.Grammar.{ParseState, VariableDeclaration, is_skipped}
+use Rattle.vcd_text.specs.Grammar.{initial_state}
+use Rattle.vcd_text.specs.Meaning.{meaning, FileMeans}
+use Rattle.vcd_edit.specs.declared.edit.Edit.{Edit}
+use Rattle.vcd_journal.specs.Machine.{Machine, initial_machine}
+use Rattle.vcd_journal.specs.History.{replay}
+use Rattle.vcd_hollow.specs.Origins.{origins}
+use Rattle.vcd_core.specs.SignalOrigins.{RiseWithin, ComeFrom}
+use Rattle.vcd_hollow.proofs.shared.Origins.{origins_rise, signals_come_from_origins}
+use Rattle.vcd_text.proofs.shared.ResultIsUnique.{one_meaning}
+use Rattle.vcd_hollow.specs.Cuts.{cuts}
+use Rattle.vcd_hollow.specs.Hollow.{hollow}
+use Rattle.vcd_script.specs.Script.{script_lines}
+use Rattle.vcd_script.specs.Reply.{LineReply, reply_text}
+use Rattle.vcd_script.specs.Run.{RunOutcome, outcome}
+use Rattle.vcd_script.specs.LineRunEnds.{RunsLines}
+use Rattle.vcd_hollow.specs.HollowRun.{last_edits}
+use Rattle.vcd_hollow.specs.HollowRun.{IsSameRun}
+use Rattle.vcd_hollow.proofs.shared.HollowRuns.{run_on_hollow}
+use Rattle.vcd_script.proofs.shared.LinesAndHistory.{outcome_is, last_capture as last_machine}
+use Rattle.vcd_copy.specs.Pieces.{Piece, state_of_pieces}
+use Rattle.vcd_amend.specs.Amendment.{Amendment}
+use Rattle.vcd_amend.specs.RetimedCopy.{IsAmendedAfterCuts, is_cut_by}
+use Rattle.vcd_amend.specs.RetimedLaws.{pieces_after}
+use Rattle.vcd_amend_run.specs.inside.CaptureAfterCuts.{capture_after_cuts}
+use Rattle.vcd_amend.specs.declared.cut_ticks.CutTicks.{CutTicks}
+use Rattle.vcd_amend.specs.KnownSignals.{IsAmendmentFor}
+use Rattle.vcd_amend.specs.AmendedText.{amended_text}
+use Rattle.vcd_amend_run.specs.EditedText.{PiecesMean, edited_text, pieces_after_cuts, is_cut_out_by}
+use Rattle.vcd_amend_run.specs.AmendRun.{IsAmendRun}
+use Rattle.vcd_amend_run.specs.inside.Running.{IsLaterCapture, IsPlanned, IsEdited}
+use Rattle.vcd_amend_run.proofs.laws.EditedFiles.{accepted_file_has_pieces}
+use Rattle.vcd_amend_run.proofs.running.AmendedRun.{IsKnownAmendment, IsKnownForRun, cut_is_accepted}
+use Rattle.vcd_amend_run.proofs.running.AmendedRun.{amended_text_is_edited, declared_after_cuts}
+use Rattle.vcd_amend_run.proofs.running.CutsInForce.{cut_by_is_cut_out, cuts_are_replayed, hollow_after_cuts}
+
+-- ---- the script carried out
+
+-- the replies and the refusals on the hollow capture are those on the whole one
+pub same_replies : (silent : ℕ → Bool) (c : Contents) (skipped depth : ℕ) (lines : List (List ℕ))
+    → IsSameRun silent c skipped depth lines
+    → ((outcome (hollow silent c) skipped depth lines).replies ≡ (outcome c skipped depth lines).replies)
+    × ((outcome (hollow silent c) skipped depth lines).refused ≡ (outcome c skipped depth lines).refused)
+same_replies silent c skipped depth lines same = (
+  ap (λ (given : List LineReply). map (λ (p : ℕ × LineReply). reply_text p.0 p.1) (enumerate_from 1 given))
+      same.same_answers,
+  ap (λ (given : List LineReply). count_by is_err given) same.same_answers,
+)
+
+pub is_edited : (file lines script : List ℕ) (depth : ℕ) (writes : Bool) (declared : List VariableDeclaration)
+    (skipped : ℕ) (first : Contents) (ks : List ℕ) (cs : List CutTicks) (takes : Bool) (new : Machine) (refused : ℕ)
+    (before after : Option (List ℕ))
+    → IsPlanned file lines depth declared skipped first ks cs takes × (script ≡ lines)
+    → (writes ≡ true → takes ≡ false)
+    → RunsLines skipped (script_lines script) (initial_machine first depth) new refused before after
+    → IsEdited file lines depth writes (Appends before after) declared first ks cs new.now refused
+is_edited file lines script depth writes declared skipped first ks cs takes new refused before after planned free ran =
+    let plan = planned.0 in
+    let c : Contents = plan.whole in
+    let all : List (List ℕ) = script_lines lines in
+    let h : Contents = hollow plan.silent c in
+    let here : RunsLines skipped all (initial_machine h depth) new refused before after =
+    subst (λ s. RunsLines skipped (script_lines s) (initial_machine h depth) new refused before after) planned.1
+    (subst (λ (d : Contents). RunsLines skipped (script_lines script) (initial_machine d depth) new refused before
+    after)
+    plan.hollow_is ran) in
+    let gives = here.2 in
+    let same = same_replies plan.silent c skipped depth all (run_on_hollow plan.silent c skipped depth all plan.heard)
+    in
+    let is = outcome_is h skipped depth all in
+    let replies : (outcome c skipped depth all).replies ≡ here.0 =
+    sym same.0 ∙ ap (λ (o : RunOutcome). o.replies) is ∙ gives.replies in
+    record {
+      whole = c;
+      skipped = skipped;
+      silent = plan.silent;
+      means = plan.means;
+      heard = plan.heard;
+      hollow_is = plan.hollow_is;
+      last_is = ap (λ (m : Machine). m.now) (sym gives.after) ∙ sym (last_machine h skipped depth all);
+      origins_are = plan.origins_are;
+      cuts_are = plan.cuts_are;
+      free = λ asked. sym plan.names ∙ free asked;
+      variables = plan.variables;
+      replies = subst (λ (texts : List (List ℕ)). Appends before after (concat texts)) (sym replies) here.1;
+      count = sym gives.refused ∙ sym (ap (λ (o : RunOutcome). o.refused) is) ∙ same.1;
+    }
+
+-- the last capture comes from the first
+pub comes_from : (first : Contents) (skipped depth : ℕ) (lines : List (List ℕ)) (ks : List ℕ) (new : Machine)
+    (refused : ℕ) (before after : Option (List ℕ))
+    → ks ≡ origins (length first.signals) (last_edits first skipped depth lines)
+    → RunsLines skipped lines (initial_machine first depth) new refused before after
+    → IsLaterCapture first ks new.now
+comes_from first skipped depth lines ks new refused before after placed ran =
+    let es : List Edit = last_edits first skipped depth lines in
+    let now : replay first es ≡ new.now =
+    last_machine first skipped depth lines ∙ ap (λ (m : Machine). m.now) ran.2.after in
+    record {
+      rising = subst (RiseWithin 0 (length first.signals)) (sym placed) (origins_rise (length first.signals) es);
+      come = subst (λ (os : List ℕ). ComeFrom first os new.now.signals) (sym placed)
+          (subst (λ (c : Contents). ComeFrom first (origins (length first.signals) es) c.signals) now
+          (signals_come_from_origins first es));
+    }
+
+-- ---- what is given
+
+-- the run without an output: the file has pieces
+pub is_run : (file lines : List ℕ) (depth : ℕ) (c : Contents) (skipped : ℕ) → FileMeans SIGNAL_LIMIT file c skipped
+    → (written : RunOutcome) × IsAmendRun file lines depth written
+    × (written.replies ≡ (outcome c skipped depth (script_lines lines)).replies)
+    × (written.refused ≡ (outcome c skipped depth (script_lines lines)).refused)
+is_run file lines depth c skipped means =
+    let found = accepted_file_has_pieces file c skipped means in (
+      record (outcome c skipped depth (script_lines lines)) {
+        output = edited_text c skipped depth (script_lines lines) found.0 found.1;
+      },
+      record { contents = c; skipped = skipped; pieces = found.0; tail = found.1; means = found.2; run = refl },
+      refl,
+      refl,
+    )
+
+-- the amendment that is known from the captures is known for the run
+pub known_for_run : (file lines : List ℕ) (depth : ℕ) (writes : Bool) (took : List ℕ → Type 0)
+    (declared : List VariableDeclaration) (first : Contents) (ks : List ℕ) (cs : List CutTicks) (last : Contents)
+    (refused : ℕ) (a : Amendment) (pieces : List Piece) (tail : List ℕ)
+    (edited : IsEdited file lines depth writes took declared first ks cs last refused)
+    → IsAmendmentFor declared (capture_after_cuts first cs).signals ks last.signals a
+    → PiecesMean file pieces tail edited.whole edited.skipped
+    → IsKnownForRun edited.silent edited.whole edited.skipped depth (script_lines lines) pieces a
+known_for_run file lines depth writes took declared first ks cs last refused a pieces tail edited is_for is =
+    let c : Contents = edited.whole in
+    let all : List (List ℕ) = script_lines lines in
+    let es : List Edit = last_edits c edited.skipped depth all in
+    let s : ParseState = state_of_pieces SIGNAL_LIMIT pieces in
+    let t : ParseState = state_of_pieces SIGNAL_LIMIT (pieces_after_cuts c edited.skipped depth all pieces) in
+    let variables : declared ≡ t.declared =
+    edited.variables s (cut_is_accepted file pieces tail is.cut is.allowed is.in_body)
+    ∙ sym (declared_after_cuts file pieces tail c edited.skipped depth all is) in
+    let firsts : capture_after_cuts first cs ≡ hollow edited.silent (replay c (cuts es)) =
+    (λ i. capture_after_cuts (edited.hollow_is i) (edited.cuts_are i))
+    ∙ cuts_are_replayed (hollow edited.silent c) es ∙ hollow_after_cuts edited.silent c es in
+    subst (λ (d : Contents). IsKnownAmendment t (hollow edited.silent (replay c (cuts es))).signals
+    (origins (length c.signals) es) d.signals a) edited.last_is
+    (subst (λ (os : List ℕ). IsKnownAmendment t (hollow edited.silent (replay c (cuts es))).signals os last.signals a)
+    edited.origins_are
+    (subst (λ (d : Contents). IsKnownAmendment t d.signals ks last.signals a) firsts
+    (λ whole knows. is_for t whole variables knows)))
+
+-- with an output: the amended text is that of the run
+pub is_written : (file lines text : List ℕ) (depth : ℕ) (took : List ℕ → Type 0) (declared : List VariableDeclaration)
+    (first : Contents) (ks : List ℕ) (cs : List CutTicks) (last : Contents) (refused : ℕ) (a : Amendment)
+    → IsEdited file lines depth true took declared first ks cs last refused
+    → IsAmendmentFor declared (capture_after_cuts first cs).signals ks last.signals a
+    → IsAmendedAfterCuts SIGNAL_LIMIT (is_cut_by cs) a file text
+    → (written : RunOutcome) × IsAmendRun file lines depth written × took (concat written.replies)
+    × (text ≡ written.output) × (refused ≡ written.refused)
+is_written file lines text depth took declared first ks cs last refused a edited is_for amended =
+    let c : Contents = edited.whole in
+    let skipped : ℕ = edited.skipped in
+    let all : List (List ℕ) = script_lines lines in
+    let es : List Edit = last_edits c skipped depth all in
+    let pieces : List Piece = amended.pieces in
+    let s : ParseState = state_of_pieces SIGNAL_LIMIT pieces in
+    let accepted = cut_is_accepted file pieces amended.tail amended.cut amended.allowed amended.in_body in
+    let again : FileMeans SIGNAL_LIMIT file (meaning s) (count_by is_skipped s.declared) =
+    record { state = s; accepted = accepted; means = refl; left_out = refl } in
+    let one = one_meaning SIGNAL_LIMIT file c (meaning s) skipped (count_by is_skipped s.declared) edited.means again in
+    let is : PiecesMean file pieces amended.tail c skipped =
+    record {
+      cut = amended.cut;
+      allowed = amended.allowed;
+      in_body = amended.in_body;
+      means = one.0;
+      left_out = one.1;
+    } in
+    let known = known_for_run file lines depth true took declared first ks cs last refused a pieces amended.tail edited
+    is_for is in
+    let cut_out : is_cut_by cs ≡ is_cut_out_by es = ap is_cut_by edited.cuts_are ∙ cut_by_is_cut_out es in (
+      record (outcome c skipped depth all) {
+        output = edited_text c skipped depth all pieces amended.tail;
+      },
+      record { contents = c; skipped = skipped; pieces = pieces; tail = amended.tail; means = is; run = refl },
+      edited.replies,
+      amended.is
+          ∙ ap (λ (f : ℕ → Bool). amended_text a true (initial_state SIGNAL_LIMIT)
+          (pieces_after f SIGNAL_LIMIT pieces) amended.tail) cut_out
+          ∙ amended_text_is_edited file pieces amended.tail edited.silent c skipped depth all a is edited.heard known,
+      edited.count,
+    )

@@ -1,0 +1,326 @@
+-- How a run ends, at each place where it can.
+use Rattle.std.proofs.Common.{◌≡◌, inl, inr, Result, Ok, Err, ℕ, zero, suc, List, Option, Some}
+use Rattle.std.proofs.Common.{None}
+use Rattle.std.proofs.Common.{refl, sym, subst, ap, ◌∙◌, ◌-◌, ◌<◌, Bool, true, false, length, arith}
+use Rattle.std.specs.Prelude.{IfSome, IfErr, IsErrAnd, take, ◌≤◌}
+use Rattle.std.specs.List.{concat}
+use Rattle.std.proofs.lemmas.Bool.{false≢true}
+use Rattle.std.specs.Io.KnownBytes.{Appends}
+use Rattle.vcd_core.specs.declared.capture.TheConstants.{SIGNAL_LIMIT}
+use Rattle.vcd_core.specs.Contents.{Contents}
+use Rattle.vcd_core.specs.Outline.{outline}
+use Rattle.vcd_core.specs.Devices.{DeviceEnd, IsUntouched, HasPrefix, HasText}
+use Rattle.vcd_text.specs.Words.{words_of}
+use Rattle.vcd_text.specs.Grammar.{ParseState, VariableDeclaration, Accepts}
+use Rattle.vcd_amend.specs.DeclaredVariables.{HaveSizesOf}
+use Rattle.vcd_journal.specs.Machine.{initial_machine}
+use Rattle.vcd_text.proofs.shared.ResultIsUnique.{one_meaning}
+use Rattle.vcd_hollow.specs.Hollow.{hollow}
+use Rattle.vcd_script.specs.Script.{script_lines}
+use Rattle.vcd_script.specs.Run.{RunOutcome}
+use Rattle.vcd_hollow.proofs.shared.HollowRuns.{run_on_hollow}
+use Rattle.vcd_script.proofs.shared.LinesAndHistory.{outcome_is}
+use Rattle.vcd_copy.specs.CopyEnds.{CopyFails}
+use Rattle.vcd_text.specs.declared.fault.ReadError.{ReadError}
+use Rattle.vcd_copy.specs.declared.copying.copy_error.CopyError.{CopyError}
+use Rattle.vcd_copy.specs.declared.copying.copy_error.CopyError.TheVariants as copy_errors
+use Rattle.vcd_text.specs.declared.reading.TheConstants.{LONG_FILE_LIMIT}
+use Rattle.vcd_script.specs.ScriptFaults.{ScriptFails}
+use Rattle.vcd_script.specs.SessionLines.{line_replies}
+use Rattle.vcd_script.specs.declared.running.run_error.RunError.{RunError}
+use Rattle.vcd_script.specs.declared.running.run_error.Summary.{Summary}
+use Rattle.vcd_script.specs.declared.running.run_error.RunError.TheVariants as run_errors
+use Rattle.vcd_amend_run.specs.declared.running.AmendRunError.{AmendRunError}
+use Rattle.vcd_amend_run.specs.declared.running.AmendRunError.TheVariants as errors
+use Rattle.vcd_amend_run.specs.declared.hearing.HearError.{HearError}
+use Rattle.vcd_amend_run.specs.declared.hearing.HearError.TheVariants as hear_errors
+use Rattle.vcd_amend.specs.Amendment.{Amendment}
+use Rattle.vcd_amend.specs.RetimedCopy.{IsAmendedAfterCuts, is_cut_by}
+use Rattle.vcd_amend_run.specs.inside.CaptureAfterCuts.{capture_after_cuts}
+use Rattle.vcd_amend.specs.declared.cut_ticks.CutTicks.{CutTicks}
+use Rattle.vcd_amend.specs.KnownSignals.{IsAmendmentFor}
+use Rattle.vcd_amend_run.specs.AmendRun.{IsAmendRun}
+use Rattle.vcd_amend_run.specs.FileParts.{HasOutline, HasOtherOutline, HearFails}
+use Rattle.vcd_amend_run.specs.AmendRunEnds.{PassEnds, AllShow, FailsIn, ForAmendRun, IsShortFile, AmendRunEnds}
+use Rattle.vcd_amend_run.specs.inside.Running.{RefusesPlan}
+use Rattle.vcd_amend_run.specs.inside.Running.{IsPlanned, IsEdited, EndsBeforeReplies}
+use Rattle.vcd_amend_run.specs.inside.Running.{EndsBeforeCopy, HasEditLines}
+use Rattle.vcd_amend_run.specs.MarkedRun.{MarkedRunEnds, mark_with}
+use Rattle.vcd_copy.specs.Marks.{IsMarkedFile}
+use Rattle.vcd_copy.specs.declared.marking.head.MarkHead.{MarkHead}
+use Rattle.vcd_amend_run.specs.inside.Running.{StopsInRun, error_of_hearing, error_of_copy}
+use Rattle.vcd_amend_run.proofs.running.PlannedRun.{sizes_agree, names_of_file}
+use Rattle.vcd_amend_run.proofs.running.CarriedOut.{is_run, same_replies}
+use Rattle.vcd_amend_run.proofs.running.MarkedRun.{marked_is_written}
+
+-- ---- after the last reply
+
+module _ (depth : ℕ) (passes : PassEnds) (script replies : DeviceEnd) (declared : List VariableDeclaration)
+    (first : Contents) (ks : List ℕ) (cs : List CutTicks) (last : Contents) (refused : ℕ) where
+  -- what is known where the passes before the copy show one file
+  abbrev pub AreEdited : Bool → Type 0
+  AreEdited writes = (file lines : List ℕ)
+      → (passes.declarations.before ≡ Some file) × (passes.outline.before ≡ Some file)
+      × (passes.changes.before ≡ Some file) → script.before ≡ Some lines
+      → IsEdited file lines depth writes (Appends replies.before replies.after) declared first ks cs last refused
+
+  -- the outline was read of a file that is not too long
+  short_file : IfSome passes.outline.before (λ file. length file ≤ LONG_FILE_LIMIT) → IsShortFile passes
+  short_file short file shows = subst (λ coming. IfSome coming (λ f. length f ≤ LONG_FILE_LIMIT)) shows.1 short
+
+  -- the end without an output
+  pub ends_without_output : (writes : Bool) → AreEdited writes → replies.has_failed ≡ false
+      → IfSome passes.outline.before (λ file. length file ≤ LONG_FILE_LIMIT)
+      → AmendRunEnds depth passes script replies None (Ok (record { refused = refused }))
+  unfolding AmendRunEnds
+  ends_without_output writes edited ready short = (
+    ready,
+    tt,
+    short_file short,
+    λ file lines shows script_shows.
+        let one = edited file lines (shows.0, shows.1, shows.2) script_shows in
+        let run = is_run file lines depth one.whole one.skipped one.means in (
+          run.0,
+          run.1,
+          (
+            subst (λ (texts : List (List ℕ)). Appends replies.before replies.after (concat texts)) (sym run.2)
+                one.replies,
+            tt,
+            one.count ∙ sym run.3,
+          ),
+        ),
+  )
+
+  -- the end with one, and with a mark if one is asked for
+  pub ends_with_output : (head : Option MarkHead) (edits : List (List ℕ)) (out : DeviceEnd) → AreEdited true
+      → ((file lines : List ℕ) → (passes.declarations.before ≡ Some file) × (passes.outline.before ≡ Some file)
+      × (passes.changes.before ≡ Some file) → script.before ≡ Some lines → HasEditLines file lines depth edits)
+      → replies.has_failed ≡ false → out.has_failed ≡ false
+      → IfSome passes.outline.before (λ file. length file ≤ LONG_FILE_LIMIT)
+      → IfSome passes.copy.before (λ file. (a : Amendment)
+      × IsAmendmentFor declared (capture_after_cuts first cs).signals ks last.signals a
+      × (marked : List ℕ) × IsMarkedFile SIGNAL_LIMIT (mark_with head edits) file marked
+      × (text : List ℕ) × IsAmendedAfterCuts SIGNAL_LIMIT (is_cut_by cs) a marked text
+      × Appends out.before out.after text)
+      → MarkedRunEnds depth head passes script replies (Some out) (Ok (record { refused = refused }))
+  ends_with_output head edits out edited edits_are ready out_ready short copied = record {
+    replies_ready = ready;
+    out_ready = out_ready;
+    possible = λ file lines shows script_shows.
+        let one = edited file lines (shows.0, shows.1, shows.2) script_shows in
+        let s : ParseState = one.means.state in
+        let all : List (List ℕ) = script_lines lines in (
+          s,
+          one.means.accepted,
+          λ taken. false≢true (sym (names_of_file file all depth declared one.skipped one.whole ks false one.means
+              one.origins_are (one.variables s one.means.accepted) (one.free refl)) ∙ taken),
+        );
+    short = short_file short;
+    run = λ file lines shows script_shows.
+        let one = edited file lines (shows.0, shows.1, shows.2) script_shows in
+        let here = subst (λ coming. IfSome coming (λ f. (a : Amendment)
+        × IsAmendmentFor declared (capture_after_cuts first cs).signals ks last.signals a
+        × (marked : List ℕ) × IsMarkedFile SIGNAL_LIMIT (mark_with head edits) f marked
+        × (text : List ℕ) × IsAmendedAfterCuts SIGNAL_LIMIT (is_cut_by cs) a marked text
+        × Appends out.before out.after text)) shows.3 copied in
+        let run = marked_is_written file lines here.2 depth (Appends replies.before replies.after) declared first ks cs
+        last refused here.4 head edits here.0 one (edits_are file lines (shows.0, shows.1, shows.2) script_shows)
+        here.1 here.3 here.5 in
+        (run.0, run.1, (run.2, subst (Appends out.before out.after) run.3 here.6, run.4));
+  }
+
+  -- all replies are written
+  replied : AreEdited true → ForAmendRun depth passes script replies None
+      (λ written. HasText replies (concat written.replies))
+  replied edited file lines shows script_shows =
+      let one = edited file lines (shows.0, shows.1, shows.2) script_shows in
+      let run = is_run file lines depth one.whole one.skipped one.means in (
+        run.0,
+        run.1,
+        subst (λ (texts : List (List ℕ)). Appends replies.before replies.after (concat texts))
+            (sym run.2) one.replies,
+      )
+
+  -- the end at a fault of the copy
+  pub ends_at_copy : (out : DeviceEnd) (e : CopyError) → AreEdited true
+      → CopyFails SIGNAL_LIMIT LONG_FILE_LIMIT passes.copy.before passes.copy.after passes.copy.has_failed out.before
+      out.after out.has_failed e
+      → AmendRunEnds depth passes script replies (Some out) (Err (error_of_copy e))
+  unfolding AmendRunEnds
+  ends_at_copy out (copy_errors.Read e) edited fails = inr (fails, replied edited)
+  ends_at_copy out (copy_errors.Write e) edited fails = ((fails.1, fails.2), replied edited)
+
+-- ---- ends before the replies
+
+module _ (passes : PassEnds) (script : DeviceEnd) where
+  pub declarations_end : (e : ReadError) → FailsIn passes.declarations e
+      → EndsBeforeReplies passes script (errors.Run (run_errors.Capture e))
+  unfolding AmendRunEnds
+  declarations_end e fails depth writes replies untouched output asked kept = inl (inl fails, (untouched, kept))
+
+  pub outline_ends : (e : ReadError) → FailsIn passes.outline e
+      → EndsBeforeReplies passes script (errors.Run (run_errors.Capture e))
+  unfolding AmendRunEnds
+  outline_ends e fails depth writes replies untouched output asked kept = inl (inr (inl fails), (untouched, kept))
+
+  pub sizes_end : (declared : List VariableDeclaration) (o : Contents) (skipped : ℕ) (e : AmendRunError)
+      → (e ≡ errors.CaptureChanged) × (HaveSizesOf o.signals declared → ⊥)
+      → IfSome passes.declarations.before (λ f. (s : ParseState) → Accepts SIGNAL_LIMIT (words_of f) s
+      → declared ≡ s.declared)
+      → IfSome passes.outline.before (λ f. (length f ≤ LONG_FILE_LIMIT) × HasOutline SIGNAL_LIMIT f o skipped)
+      → EndsBeforeReplies passes script e
+  unfolding AmendRunEnds
+  sizes_end declared o skipped e differs variables outlined depth writes replies untouched output asked kept =
+      rw (differs.0) (
+        kept,
+        λ file shows. differs.1 (sizes_agree file declared o skipped
+            (subst (λ coming. IfSome coming (λ f. (s : ParseState) → Accepts SIGNAL_LIMIT (words_of f) s
+            → declared ≡ s.declared)) shows.0 variables)
+            (subst (λ coming. IfSome coming (λ f. (length f ≤ LONG_FILE_LIMIT)
+            × HasOutline SIGNAL_LIMIT f o skipped)) shows.1 outlined).1),
+      )
+
+  pub memory_ends : EndsBeforeReplies passes script (errors.Run (run_errors.NoMemory 0))
+  unfolding AmendRunEnds
+  memory_ends depth writes replies untouched output asked kept = (untouched, kept)
+
+  pub script_ends : (e : RunError) → ScriptFails script e → EndsBeforeReplies passes script (errors.Run e)
+  unfolding AmendRunEnds
+  script_ends run_errors.ScriptTooLarge fails depth writes replies untouched output asked kept =
+      (fails, (untouched, kept))
+  script_ends run_errors.ScriptReadFault fails depth writes replies untouched output asked kept =
+      (fails, (untouched, kept))
+  script_ends (run_errors.NoMemory zero) fails depth writes replies untouched output asked kept = (untouched, kept)
+  script_ends (run_errors.NoMemory (suc n)) fails depth writes replies untouched output asked kept = absurd fails
+  script_ends (run_errors.Capture fault) fails depth writes replies untouched output asked kept = absurd fails
+  script_ends (run_errors.ReplyFault n) fails depth writes replies untouched output asked kept = absurd fails
+  script_ends (run_errors.Write fault) fails depth writes replies untouched output asked kept = absurd fails
+
+  pub hearing_ends : (o declared : Contents) (skipped : ℕ) (e : HearError) → declared ≡ o
+      → IfSome passes.outline.before (λ f. (length f ≤ LONG_FILE_LIMIT) × HasOutline SIGNAL_LIMIT f o skipped)
+      → HearFails SIGNAL_LIMIT LONG_FILE_LIMIT declared passes.changes.before passes.changes.after
+      passes.changes.has_failed e
+      → EndsBeforeReplies passes script (error_of_hearing e)
+  unfolding AmendRunEnds
+  hearing_ends o declared skipped (hear_errors.Read error) same outlined fails depth writes replies untouched output
+      asked kept =
+      inl (inr (inr fails), (untouched, kept))
+  hearing_ends o declared skipped hear_errors.Changed same outlined fails depth writes replies untouched output
+      asked kept = (
+        kept,
+        λ file shows.
+            let was = (subst (λ coming. IfSome coming (λ f. (length f ≤ LONG_FILE_LIMIT)
+            × HasOutline SIGNAL_LIMIT f o skipped)) shows.1 outlined).1 in
+            let now = subst (λ coming. IfSome coming (λ f. HasOtherOutline SIGNAL_LIMIT f declared)) shows.2 fails in
+            now.other (ap outline (one_meaning SIGNAL_LIMIT file now.whole was.whole now.skipped skipped now.means
+            was.means).0 ∙ sym was.is ∙ sym same),
+      )
+
+-- ---- ends before the copy
+
+module _ (depth : ℕ) (writes : Bool) (passes : PassEnds) (script replies : DeviceEnd)
+    (declared : List VariableDeclaration) (skipped : ℕ) (first : Contents) (ks : List ℕ) (cs : List CutTicks)
+    (takes : Bool) (bytes : List ℕ) where
+  -- what is known where the passes before the copy show one file
+  abbrev IsPlan : Type 0
+  IsPlan = (file lines : List ℕ) → (passes.declarations.before ≡ Some file)
+      × (passes.outline.before ≡ Some file) × (passes.changes.before ≡ Some file) → script.before ≡ Some lines
+      → IsPlanned file lines depth declared skipped first ks cs takes × (bytes ≡ lines)
+
+  -- a plan that is refused
+  pub plan_ends : (e : AmendRunError) → RefusesPlan writes takes e → IsPlan → IsUntouched replies
+      → EndsBeforeCopy depth writes passes script replies e
+  unfolding AmendRunEnds
+  plan_ends e refuses planned untouched output asked kept = rw (refuses.2) (
+    asked ∙ refuses.0,
+    (untouched, kept),
+    λ file lines shows script_shows.
+        let plan = (planned file lines (shows.0, shows.1, shows.2) script_shows).0 in
+        let s : ParseState = plan.means.state in (
+          s,
+          plan.means.accepted,
+          names_of_file file (script_lines lines) depth declared skipped plan.whole ks true plan.means plan.origins_are
+              (plan.variables s plan.means.accepted) (sym plan.names ∙ refuses.1),
+        ),
+  )
+
+  -- in the lines, on the hollow capture
+  module _ (planned : IsPlan) where
+    -- the replies of the run are those of the lines on the session
+    replies_of_run : (file lines : List ℕ) → AllShow passes file → script.before ≡ Some lines
+        → (written : RunOutcome) × IsAmendRun file lines depth written
+        × (line_replies skipped 1 (initial_machine first depth) (script_lines bytes) ≡ written.replies)
+    replies_of_run file lines shows script_shows =
+        let both = planned file lines (shows.0, shows.1, shows.2) script_shows in
+        let plan = both.0 in
+        let c : Contents = plan.whole in
+        let h : Contents = hollow plan.silent c in
+        let all : List (List ℕ) = script_lines lines in
+        let same = same_replies plan.silent c skipped depth all
+        (run_on_hollow plan.silent c skipped depth all plan.heard) in
+        let run = is_run file lines depth c skipped plan.means in (
+          run.0,
+          run.1,
+          (λ i. line_replies skipped 1 (initial_machine (plan.hollow_is i) depth) (script_lines (both.1 i)))
+              ∙ sym (ap (λ (o : RunOutcome). o.replies) (outcome_is h skipped depth all)) ∙ same.0 ∙ sym run.2,
+        )
+
+    pub lines_end : (e : AmendRunError)
+        → StopsInRun skipped (script_lines bytes) (initial_machine first depth) replies e
+        → EndsBeforeCopy depth writes passes script replies e
+    unfolding AmendRunEnds
+    lines_end (errors.Run (run_errors.NoMemory zero)) (inl stops) output asked kept = (stops.1, kept)
+    lines_end (errors.Run (run_errors.NoMemory zero)) (inr stops) output asked kept = absurd (omega (arith, stops.2.0))
+    lines_end (errors.Run (run_errors.NoMemory (suc before))) (inl stops) output asked kept = absurd (cc)
+    lines_end (errors.Run (run_errors.NoMemory (suc before))) (inr stops) output asked kept = (
+      kept,
+      λ file lines shows script_shows.
+          let run = replies_of_run file lines shows script_shows in
+          let one_less : suc before - 1 ≡ before = omega arith in (
+            run.0,
+            run.1,
+            subst (λ (texts : List (List ℕ)). (before < length texts)
+                × HasText replies (concat (take before texts))) run.2 (
+                  omega (arith, stops.2.1),
+                  subst (λ n. HasText replies (concat (take n
+                      (line_replies skipped 1 (initial_machine first depth) (script_lines bytes))))) one_less stops.2.2,
+                ),
+          ),
+    )
+    lines_end (errors.Run (run_errors.ReplyFault written)) (inl stops) output asked kept = absurd (cc)
+    lines_end (errors.Run (run_errors.ReplyFault written)) (inr stops) output asked kept = (
+      stops.1,
+      kept,
+      λ file lines shows script_shows.
+          let run = replies_of_run file lines shows script_shows in (
+            run.0,
+            run.1,
+            subst (λ (texts : List (List ℕ)). HasPrefix replies written (concat texts)) run.2 stops.2,
+          ),
+    )
+    lines_end (errors.Run (run_errors.Capture fault)) (inl stops) output asked kept = absurd (cc)
+    lines_end (errors.Run (run_errors.Capture fault)) (inr stops) output asked kept = absurd stops.2
+    lines_end (errors.Run run_errors.ScriptTooLarge) (inl stops) output asked kept = absurd (cc)
+    lines_end (errors.Run run_errors.ScriptTooLarge) (inr stops) output asked kept = absurd stops.2
+    lines_end (errors.Run run_errors.ScriptReadFault) (inl stops) output asked kept = absurd (cc)
+    lines_end (errors.Run run_errors.ScriptReadFault) (inr stops) output asked kept = absurd stops.2
+    lines_end (errors.Run (run_errors.Write fault)) (inl stops) output asked kept = absurd (cc)
+    lines_end (errors.Run (run_errors.Write fault)) (inr stops) output asked kept = absurd stops.2
+    lines_end errors.NameOfSkipped stops output asked kept = absurd stops
+    lines_end errors.CaptureChanged stops output asked kept = absurd stops
+
+-- ---- errors passed on
+
+-- what holds of one error holds where it is passed on
+pub at_error : {A E : Type 0} (r : Result A E) (error : E) (P : E → Type 0) → IsErrAnd r (λ e. e ≡ error) → P error
+    → IfErr r P
+at_error (Ok v) error P gives holds = tt
+at_error (Err e) error P gives holds = rw gives holds
+
+-- a run that an error ended
+pub ends_with : (r : Result Summary AmendRunError) (error : AmendRunError) (depth : ℕ) (head : Option MarkHead)
+    (passes : PassEnds) (script replies out : DeviceEnd) → IsErrAnd r (λ e. e ≡ error)
+    → AmendRunEnds depth passes script replies (Some out) (Err error)
+    → MarkedRunEnds depth head passes script replies (Some out) r
+ends_with (Ok summary) error depth head passes script replies out gives ends = absurd gives
+ends_with (Err e) error depth head passes script replies out gives ends = rw gives ends

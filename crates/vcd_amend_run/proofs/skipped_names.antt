@@ -1,0 +1,2 @@
+-- Lemmas of `skipped_names`.
+pub mod Hashes

@@ -1,0 +1,3 @@
+-- Worked cases.
+pub mod EditedFiles
+pub mod OutputRemarks

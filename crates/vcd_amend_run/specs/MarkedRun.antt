@@ -1,0 +1,65 @@
+-- What amending a file by a script gives if the file is marked: the project's own.
+use Rattle.std.specs.Prelude.{◌≡◌, ℕ, false, List, Option, Some, None, Result, Ok}
+use Rattle.std.specs.List.{concat}
+use Rattle.vcd_core.specs.declared.capture.TheConstants.{SIGNAL_LIMIT}
+use Rattle.vcd_core.specs.Contents.{Contents}
+use Rattle.vcd_core.specs.Devices.{DeviceEnd, HasText}
+use Rattle.vcd_text.specs.Meaning.{FileMeans}
+use Rattle.vcd_copy.specs.Pieces.{Piece}
+use Rattle.vcd_copy.specs.Marks.{IsMarkedFile}
+use Rattle.vcd_copy.specs.MarkText.{mark_piece}
+use Rattle.vcd_copy.specs.declared.marking.head.MarkHead.{MarkHead}
+use Rattle.vcd_script.specs.declared.running.run_error.Summary.{Summary}
+use Rattle.vcd_script.specs.Script.{script_lines}
+use Rattle.vcd_script.specs.Run.{RunOutcome}
+use Rattle.vcd_amend_run.specs.declared.running.AmendRunError.{AmendRunError}
+use Rattle.vcd_amend_run.specs.AmendRun.{IsAmendRun}
+use Rattle.vcd_amend_run.specs.AmendRunEnds.{PassEnds, AllShow, IsShortFile, CanBeWritten}
+use Rattle.vcd_amend_run.specs.AmendRunEnds.{AmendRunEnds}
+use Rattle.vcd_amend_run.specs.EditsInForce.{lines_in_force}
+
+-- the mark with these edits, if one is asked for
+abbrev pub mark_with : Option MarkHead → (edit_lines : List (List ℕ)) → Option Piece
+mark_with None edit_lines = None
+mark_with (Some head) edit_lines = Some (mark_piece head edit_lines)
+
+-- the same with the lines whose edits are in force after the last line
+abbrev pub mark_of_run : Option MarkHead → Contents → (skipped depth : ℕ) → (lines : List (List ℕ))
+    → Option Piece
+mark_of_run head c skipped depth lines = mark_with head (lines_in_force c skipped depth lines)
+
+-- what is written if the lines of a script are run on what a capture file means, and the file is to
+-- have a mark: what the same lines make of the file with the mark in it, which means the same
+pub record IsMarkedRun (head : Option MarkHead) (file script : List ℕ) (depth : ℕ)
+    (written : RunOutcome) : Type 0 where
+  pub contents : Contents
+  pub skipped : ℕ
+  pub means : FileMeans SIGNAL_LIMIT file contents skipped
+  pub marked : List ℕ
+  pub is_marked : IsMarkedFile SIGNAL_LIMIT
+      (mark_of_run head contents skipped depth (script_lines script)) file marked
+  pub run : IsAmendRun marked script depth written
+
+-- the head of a mark, the ends of the passes and of the script, and that of the writer of the
+-- replies
+module _ (depth : ℕ) (head : Option MarkHead) (passes : PassEnds) (script replies : DeviceEnd)
+  where
+    -- if every pass shows one file, and the script its bytes: holds of what is written with a mark
+    abbrev pub ForMarkedRun : (RunOutcome → Type 0) → Type 0
+    ForMarkedRun property = (file lines : List ℕ) → AllShow passes file
+        → script.before ≡ Some lines
+        → (written : RunOutcome) × IsMarkedRun head file lines depth written × property written
+
+    -- all replies are written, and the amended file with the mark, which can be written
+    pub record IsWrittenMarked (out : DeviceEnd) (summary : Summary) : Type 0 where
+      pub replies_ready : replies.has_failed ≡ false
+      pub out_ready : out.has_failed ≡ false
+      pub possible : CanBeWritten depth passes script replies (Some out)
+      pub short : IsShortFile passes
+      pub run : ForMarkedRun (λ written. HasText replies (concat written.replies)
+          × HasText out written.output × (summary.refused ≡ written.refused))
+
+    -- how amending a file with a mark ends: as it ends without, but for the mark in the output
+    abbrev pub MarkedRunEnds : (output : Option DeviceEnd) → Result Summary AmendRunError → Type 0
+    MarkedRunEnds (Some out) (Ok summary) = IsWrittenMarked out summary
+    MarkedRunEnds output result = AmendRunEnds depth passes script replies output result

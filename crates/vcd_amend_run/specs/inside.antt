@@ -1,0 +1,11 @@
+-- Definitions that only contracts of private functions and proofs cite. A reader need not believe
+-- them.
+pub mod CaptureAfterCuts
+pub mod HeardNames
+pub mod NameHash
+pub mod OutputRemarks
+pub mod Running
+pub mod dry_running
+pub mod WithWaves
+pub mod NewNames
+pub mod SkippedNames

@@ -1,0 +1,3 @@
+-- Definitions that `dry_running` and its proofs cite.
+pub mod HeardLines
+pub mod OriginHistory

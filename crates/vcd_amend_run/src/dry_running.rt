@@ -1,0 +1,197 @@
+//! The dry run: the lines of a script on a capture without changes, before the real run.
+
+ghost use Rattle.std.specs.Prelude.{◌≡◌, ◌≤◌, ◌<◌, ◌↔◌, ◌^◌, ℕ, nat_eq, false, [], length};
+ghost use Rattle.std.specs.Prelude.{slice_index_or, replicate, reverse, IfOk, IfErr, OnOk};
+ghost use Rattle.std.specs.List.{list_any};
+ghost use Rattle.vcd_core.specs.CaptureContents.{contents};
+ghost use Rattle.vcd_core.specs.Sound.{IsSound};
+ghost use Rattle.vcd_journal.specs.Machine.{initial_machine};
+ghost use Rattle.vcd_hollow.specs.Origins.{origins};
+ghost use Rattle.vcd_script.specs.Script.{script_lines};
+ghost use Rattle.vcd_script.specs.SessionLines.{machine_after_lines};
+ghost use Rattle.vcd_hollow.specs.HollowRun.{origins_asked, last_edits, last_capture};
+ghost use Rattle.vcd_amend_run.specs.EditsInForce.{lines_in_force};
+ghost use Rattle.vcd_amend_run.specs.inside.dry_running.OriginHistory.{ticks_of_cuts};
+ghost use Rattle.vcd_amend_run.specs.inside.dry_running.HeardLines.{HearsLine, marked};
+ghost use Rattle.vcd_amend_run.specs.inside.dry_running.HeardLines.{notes_after_lines};
+ghost use Rattle.vcd_amend_run.specs.inside.dry_running.HeardLines.{noted_before_lines};
+ghost use Rattle.vcd_amend_run.specs.inside.dry_running.HeardLines.{origins_heard_in};
+
+mod edit_history;
+mod heard_signals;
+mod line_history;
+mod origin_history;
+
+use crate::dry_running::edit_history::EditHistory;
+use crate::dry_running::heard_signals::{hear, none_heard};
+use std::alloc::Global;
+use vcd_amend::CutTicks;
+use vcd_core::{Capture, NoMemory, Word};
+use vcd_journal::{DEPTH_LIMIT, Session};
+use vcd_script::{answer_line, parse_line, split_line};
+
+/// What a dry run finds.
+#[derive(Drop)]
+pub struct DryRun {
+    /// By position in the first capture, whether a line asks for the changes of the signal.
+    pub heard: Vec<bool>,
+    /// The positions in the first capture of the signals that are left, in the order in which they
+    /// stand.
+    pub origins: Vec<usize>,
+    /// The cuts in force, the oldest first.
+    pub cuts: Vec<CutTicks>,
+    /// The lines that made the edits in force, in their order.
+    pub edit_lines: Vec<Word>,
+    /// The capture after the last line, without changes.
+    pub last: Capture,
+}
+
+/// Memory ran out in a dry run.
+#[derive(Clone, Copy, Debug, PartialEq, Eq)]
+pub struct NoMemoryAt {
+    /// The line of the script, counted from 1, or 0 before the first.
+    pub line: u64,
+}
+
+/// Runs the lines of a script on a capture without changes, and finds what the run on the whole
+/// capture needs. `skipped` is how many variables of the file were left out, and `depth` how many
+/// edits can be undone.
+///
+/// The only error is that memory runs out. The cost is that of the lines on a capture without
+/// changes, and one move of the later origins for each removal that is made, undone or made again.
+pub fn dry_run(
+    alloc: Global,
+    outline: Capture,
+    skipped: u64,
+    depth: u64,
+    script: &[u8],
+) -> Result<DryRun, NoMemoryAt>
+    requires least { 1 ≤ depth }
+    requires most { depth ≤ DEPTH_LIMIT }
+    requires sound { IsSound (contents outline) }
+    requires short { length script.now < 2 ^ 60 }
+
+    ensures heard { IfOk result (λ dry. (k : ℕ) → k < length (contents outline).signals →
+        slice_index_or dry.heard.items k false ≡ list_any (nat_eq k)
+        (origins_asked (contents outline) skipped depth (script_lines script.now))) }
+    ensures one_each { IfOk result (λ dry.
+        length dry.heard.items ≡ length (contents outline).signals) }
+    ensures origins { IfOk result (λ dry. dry.origins.items
+        ≡ origins (length (contents outline).signals)
+        (last_edits (contents outline) skipped depth (script_lines script.now))) }
+    ensures cuts { IfOk result (λ dry. dry.cuts.items
+        ≡ ticks_of_cuts (last_edits (contents outline) skipped depth (script_lines script.now))) }
+    ensures lines { IfOk result (λ dry. dry.edit_lines.items
+        ≡ lines_in_force (contents outline) skipped depth (script_lines script.now)) }
+    ensures last { IfOk result (λ dry. contents dry.last
+        ≡ last_capture (contents outline) skipped depth (script_lines script.now)) }
+    ensures line { IfErr result (λ e. e.line ≤ length (script_lines script.now)) }
+{
+    let Ok((mut session, mut history, mut heard)) = begin(alloc, outline, depth) else {
+        return Err(NoMemoryAt { line: 0 });
+    };
+    hear_lines(
+        alloc,
+        &mut session,
+        skipped,
+        script,
+        &mut heard,
+        &mut history,
+    )?;
+    match history.cuts(alloc) {
+        Ok(cuts) => Ok(found(session, history, heard, cuts)),
+        Err(_) => Err(NoMemoryAt { line: 0 }),
+    }
+}
+
+/// Before the first line: no edit is made, and no signal is heard.
+fn begin(
+    alloc: Global,
+    outline: Capture,
+    depth: u64,
+) -> Result<(Session, EditHistory, Vec<bool>), NoMemory>
+    requires least { 1 ≤ depth }
+    requires most { depth ≤ DEPTH_LIMIT }
+    requires sound { IsSound (contents outline) }
+    ensures session { IfOk result (λ begun.
+        begun.0 ≡ initial_machine (contents outline) depth) }
+    ensures history { IfOk result (λ begun.
+        begun.1 ≡ noted_before_lines (length (contents outline).signals)) }
+    ensures heard { IfOk result (λ begun.
+        begun.2.items ≡ replicate (length (contents outline).signals) false) }
+{
+    let count = outline.signals.len();
+    let heard = none_heard(alloc, count)?;
+    let history = EditHistory::new(alloc, count)?;
+    let session = Session::new(alloc, outline, depth).map_err(|_| NoMemory)?;
+    Ok((session, history, heard))
+}
+
+/// What is found after the last line.
+fn found(session: Session, history: EditHistory, heard: Vec<bool>, cuts: Vec<CutTicks>) -> DryRun
+    ensures heard { result.heard ≡ heard }
+    ensures origins { result.origins.items ≡ history.notes.origins }
+    ensures cuts { result.cuts ≡ cuts }
+    ensures lines { result.edit_lines.items ≡ reverse history.lines.in_force }
+    ensures last { contents result.last ≡ session.now }
+{
+    DryRun {
+        heard,
+        origins: history.origins.into_origins(),
+        cuts,
+        edit_lines: history.lines.into_lines(),
+        last: session.into_capture(),
+    }
+}
+
+/// Runs the lines of a script.
+fn hear_lines(
+    alloc: Global,
+    session: &mut Session,
+    skipped: u64,
+    script: &[u8],
+    heard: &mut [bool],
+    history: &mut EditHistory,
+) -> Result<(), NoMemoryAt>
+    requires { length script.now < 2 ^ 60 }
+    ensures machine { OnOk result
+        (machine_after_lines session.old (script_lines script.now) ≡ session.new) }
+    ensures notes { OnOk result (notes_after_lines skipped history.old session.old
+        (script_lines script.now) ≡ history.new) }
+    ensures heard { OnOk result (marked heard.old (origins_heard_in skipped history.old session.old
+        (script_lines script.now)) ≡ heard.new) }
+    ensures line { IfErr result (λ e. e.line ≤ length (script_lines script.now)) }
+{
+    let mut rest = script;
+    let mut number = 0u64;
+    while let Some((line, following)) = split_line(rest) {
+        number += 1;
+        let Ok(()) = hear_line(alloc, session, skipped, number, line, heard, history) else {
+            return Err(NoMemoryAt { line: number });
+        };
+        rest = following;
+    }
+    Ok(())
+}
+
+/// Runs the line of this number.
+fn hear_line(
+    alloc: Global,
+    session: &mut Session,
+    skipped: u64,
+    number: u64,
+    line: &[u8],
+    heard: &mut [bool],
+    history: &mut EditHistory,
+) -> Result<(), NoMemory>
+    ensures { OnOk result (HearsLine skipped line.now session.old session.new
+        history.old history.new heard.old heard.new) }
+{
+    let asked = parse_line(line, session.capture());
+    hear(heard, history.origins(), &asked);
+    let reply = answer_line(alloc, session, skipped, number, line)?;
+    if reply.is_refused {
+        return Ok(());
+    }
+    history.follow(alloc, &asked, line)
+}

@@ -1,0 +1,4 @@
+-- Lemmas about copies, pieces and marks.
+pub mod pieces
+pub mod shared
+pub mod marks

@@ -1,0 +1,2 @@
+-- Lemmas of `copying`.
+pub mod Ends

@@ -1,0 +1,3 @@
+-- Lemmas of `copier`.
+pub mod CopiedChunks
+pub mod Told

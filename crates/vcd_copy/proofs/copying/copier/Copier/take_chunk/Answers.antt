@@ -1,0 +1,105 @@
+use Rattle.std.proofs.Common.{◌++◌, ◌∙◌, ap, refl}
+use Rattle.vcd_copy.proofs.copying.copier.CopiedChunks.{chunk_read}
+use Rattle.vcd_text.proofs.shared.EmittedParts.{more_none}
+use Rattle.std.proofs.Common.{arith}
+use Rattle.std.proofs.KnownBytes.{Consumes-trans}
+use Rattle.std.proofs.lemmas.List.{length-append}
+use Rattle.vcd_text.proofs.shared.Chunks.{has_come, refused_early, is_no_failure, full, broken}
+use Rattle.vcd_copy.proofs.copying.copier.Copier.take_chunk.Goals as goal
+use Rattle.vcd_text.proofs.shared.FailedResults.{err_is}
+
+pub returns-in_default-clause-refused : goal.returns-in_default-clause-refused
+returns-in_default-clause-refused g c = λ limit most coming stands.
+    let p = c.args.self.now.progress in
+    let source = c.read_from.new.source in
+    let (bytes, came, taken) = stands in
+    broken limit most _ coming (g.R.Source.coming c.args.source.now) (g.R.Source.coming source)
+    (g.R.Source.has_failed source) p bytes c.at.result c.in_default.ensures.failed came c.in_default.ensures.coming
+    taken c.at.ensures
+
+pub returns-then-count-self-clause-refused : goal.returns-then-count-self-clause-refused
+returns-then-count-self-clause-refused g c = λ limit most coming stands.
+    let p = c.args.self.now.progress in
+    let source = c.read_from.new.source in
+    let (bytes, came, taken) = stands in
+    let (chunk, second, text, count) = c.in-Ok.ensures.more in
+    full limit most _ coming (g.R.Source.coming c.args.source.now) (g.R.Source.coming source)
+    (g.R.Source.has_failed source) p bytes chunk c.at-then-count-self.result c.in-Ok.ensures.not_failed came second
+    (omega (arith, count, c.if-count-self.true)) (c.in-Ok.ensures.within c.if-count-self.true) taken
+    c.at-then-count-self.ensures
+
+pub copy_words_of_chunk-requires-clause-reading : goal.copy_words_of_chunk-requires-clause-reading
+copy_words_of_chunk-requires-clause-reading g c =
+    let p = c.args.self.now.progress in
+    let (limit, most, bytes, taken) = c.requires.read_bytes in
+    let (chunk, consumes, text, count) = c.in-Ok.ensures.more in (
+      limit,
+      most,
+      bytes ++ chunk,
+      has_come _ _ _ p c.read_from.new.self _ _ _ _ _ taken text c.in_ok-make_room.ensures.same count
+          (omega (arith, c.if-count-self.false)) c.len-unfinished_len.ensures,
+    )
+
+pub returns-in_err-copy_words_of_chunk-clause-refused : goal.returns-in_err-copy_words_of_chunk-clause-refused
+returns-in_err-copy_words_of_chunk-clause-refused g c =
+    let p = c.args.self.now.progress in
+    let (chunk, second, text, count) = c.in-Ok.ensures.more in
+    let source = c.read_from.new.source in
+    rw (err_is _ c.from_residual-in_err-copy_words_of_chunk.ensures.1) (λ limit most coming stands.
+    let (bytes, came, taken) = stands in
+    let come = has_come _ _ _ p c.read_from.new.self _ _ _ _ _ taken text c.in_ok-make_room.ensures.same count
+    (omega (arith, c.if-count-self.false)) c.len-unfinished_len.ensures in
+    refused_early limit most coming
+    (g.R.Source.coming source)
+    (g.R.Source.has_failed source) (bytes ++ chunk)
+    c.in_err-copy_words_of_chunk.field-0.0 c.in-Ok.ensures.not_failed
+    (Consumes-trans coming (g.R.Source.coming c.args.source.now) (g.R.Source.coming source) bytes chunk came second)
+    (omega (arith, length-append bytes chunk, count, c.if-count-self.false, taken.size))
+    (c.in_err-copy_words_of_chunk.ensures.taken limit most (bytes ++ chunk) come))
+
+pub returns-clause-taken : goal.returns-clause-taken
+returns-clause-taken g c = λ limit most coming stands.
+    let p = c.args.self.now.progress in
+    let (bytes, came, taken) = stands in
+    let (chunk, second, text, count) = c.in-Ok.ensures.more in
+    let come = has_come _ _ _ p c.read_from.new.self _ _ _ _ _ taken text c.in_ok-make_room.ensures.same count
+    (omega (arith, c.if-count-self.false)) c.len-unfinished_len.ensures in (
+      bytes ++ chunk,
+      Consumes-trans coming (g.R.Source.coming c.args.source.now) (g.R.Source.coming c.read_from.new.source) bytes chunk
+          came second,
+      c.in_ok-copy_words_of_chunk.ensures.taken limit most (bytes ++ chunk) come,
+    )
+
+pub copy_words_of_chunk-requires-clause-copying : goal.copy_words_of_chunk-requires-clause-copying
+copy_words_of_chunk-requires-clause-copying g c =
+    let (limit, start, bytes, h) = c.requires.copying in
+    let (chunk, second, text, count) = c.in-Ok.ensures.more in (
+      limit,
+      start,
+      bytes ++ chunk,
+      chunk_read c.args.self.now _ bytes chunk h (text ∙ ap (λ l. l ++ chunk)
+          c.in_ok-make_room.ensures.same) refl refl,
+    )
+
+pub returns-clause-copied : goal.returns-clause-copied
+returns-clause-copied g c = λ limit start bytes h.
+    let (chunk, second, text, count) = c.in-Ok.ensures.more in (
+      chunk,
+      second,
+      c.in_ok-copy_words_of_chunk.ensures.copied limit start (bytes ++ chunk) (chunk_read c.args.self.now _
+          bytes chunk h (text ∙ ap (λ l. l ++ chunk) c.in_ok-make_room.ensures.same) refl refl),
+    )
+
+pub returns-in_err-copy_words_of_chunk-clause-failed : goal.returns-in_err-copy_words_of_chunk-clause-failed
+returns-in_err-copy_words_of_chunk-clause-failed g c =
+    let p = c.args.self.now.progress in
+    let (limit, most, bytes, taken) = c.requires.read_bytes in
+    let (chunk, second, text, count) = c.in-Ok.ensures.more in
+    let come = has_come _ _ _ p c.read_from.new.self _ _ _ _ _ taken text c.in_ok-make_room.ensures.same count
+    (omega (arith, c.if-count-self.false)) c.len-unfinished_len.ensures in
+    rw (err_is _ c.from_residual-in_err-copy_words_of_chunk.ensures.1) (λ is. absurd (is_no_failure limit _
+    c.in_err-copy_words_of_chunk.field-0.0
+    (c.in_err-copy_words_of_chunk.ensures.taken limit most (bytes ++ chunk) come) is))
+
+pub returns-then-count-self-clause-more : goal.returns-then-count-self-clause-more
+returns-then-count-self-clause-more g c = more_none

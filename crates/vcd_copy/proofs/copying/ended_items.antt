@@ -1,0 +1,2 @@
+-- Lemmas of `ended_items`.
+pub mod Shown

@@ -1,0 +1,7 @@
+-- Lemmas of `pieces`.
+pub mod EndedItems
+pub mod OneWordMore
+pub mod CopiedWords
+pub mod SpacedWords
+pub mod StandingBytes
+pub mod WordsInChunk

@@ -1,0 +1,5 @@
+-- Lemmas: marked files.
+pub mod MarkBytes
+pub mod MarkWords
+pub mod MarkedFiles
+pub mod MarkedCopies

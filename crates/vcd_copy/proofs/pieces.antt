@@ -1,0 +1,4 @@
+-- Lemmas: files cut into pieces.
+pub mod Bytes
+pub mod Cuts
+pub mod OneCut

@@ -1,0 +1,3 @@
+-- Lemmas: shared.
+pub mod StatesOfPieces
+pub mod SpelledItems

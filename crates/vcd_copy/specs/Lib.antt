@@ -1,0 +1,9 @@
+-- The definitions of copies, pieces and marks.
+pub mod Pieces
+pub mod CutLaws
+pub mod Copied
+pub mod VariableWords
+pub mod CopyEnds
+pub mod Marks
+pub mod MarkText
+pub mod inside

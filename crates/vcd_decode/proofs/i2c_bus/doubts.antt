@@ -1,2 +1,0 @@
--- Lemmas of `i2c_bus/doubts`.
-pub mod DoubtsOfEvents

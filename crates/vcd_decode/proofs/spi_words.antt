@@ -1,2 +1,0 @@
--- Lemmas of `spi_words`.
-pub mod EdgeByEdge

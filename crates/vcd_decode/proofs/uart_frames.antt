@@ -1,2 +1,0 @@
--- Lemmas of `uart_frames`.
-pub mod Falls

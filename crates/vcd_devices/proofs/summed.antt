@@ -1,0 +1,2 @@
+-- Lemmas of `summed`.
+pub mod EightBytes

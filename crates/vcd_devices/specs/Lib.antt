@@ -1,0 +1,2 @@
+-- The definitions of the devices.
+pub mod Sums

@@ -1,0 +1,148 @@
+//! What is looked for in the bytes of a capture as they are read: the mark of an earlier run, the
+//! comment of a part, and whether the last line has a line feed.
+
+use std::io::Eprint;
+use vcd_core::is_white_space;
+
+/// More bytes than any word has that is looked for.
+const WORD_BYTES: usize = 16;
+
+/// How far a search is. The comment of a part stands among the declarations, and a mark comes right
+/// after them, so both are no longer looked for then.
+#[derive(Clone, Copy)]
+pub struct CaptureSearch {
+    place: Place,
+    // the first bytes of a word that has begun, and how many bytes it has
+    word: [u8; WORD_BYTES],
+    len: usize,
+    has_part: bool,
+    has_mark: bool,
+    // the byte that came last, if one has come
+    last: Option<u8>,
+}
+
+/// What the words so far end with.
+#[derive(Clone, Copy)]
+enum Place {
+    /// Declarations.
+    Declarations,
+    /// `$comment` among the declarations.
+    Comment,
+    /// `$enddefinitions`.
+    LastDeclaration,
+    /// All declarations.
+    Body,
+    /// `$comment` right after the declarations.
+    FirstComment,
+    /// More than that.
+    Over,
+}
+
+/// Tells that a mark of an earlier run was found, which stays in the output.
+pub fn tell_earlier_mark<R: Eprint>(rt: &R) {
+    let _ = eprintln!(rt;
+        "output: the mark of an earlier run stays, and tells nothing of this one"
+    );
+}
+
+/// Tells that the comment of a part was found, which stays in the output.
+pub fn tell_part_comment<R: Eprint>(rt: &R) {
+    let _ = eprintln!(rt;
+        "output: the comment on what part it is stays, and tells nothing of the script"
+    );
+}
+
+/// Tells that the last line of a capture has no line feed, as in a file that was cut off.
+pub fn tell_unended_line<R: Eprint>(rt: &R) {
+    let _ = eprintln!(rt; "capture: the last line has no line feed, so the file may be cut short");
+}
+
+impl CaptureSearch {
+    /// Before the first byte.
+    pub fn new() -> CaptureSearch {
+        CaptureSearch {
+            place: Place::Declarations,
+            word: [0; WORD_BYTES],
+            len: 0,
+            has_part: false,
+            has_mark: false,
+            last: None,
+        }
+    }
+
+    /// Whether a mark has come.
+    pub fn has_found_mark(&self) -> bool {
+        self.has_mark
+    }
+
+    /// Whether the comment of a part has come.
+    pub fn has_found_part(&self) -> bool {
+        self.has_part
+    }
+
+    /// Whether bytes have come, and the last one is no line feed.
+    pub fn ends_within_line(&self) -> bool {
+        matches!(self.last, Some(byte) if byte != b'\n')
+    }
+
+    /// Goes on with further bytes.
+    pub fn go_on(&mut self, bytes: &[u8]) {
+        if let Some(byte) = bytes.last() {
+            self.last = Some(*byte);
+        }
+        for byte in bytes {
+            if matches!(self.place, Place::Over) {
+                return;
+            }
+            self.take(*byte);
+        }
+    }
+
+    /// Takes one byte more.
+    fn take(&mut self, byte: u8) {
+        if is_white_space(byte) {
+            self.end_word();
+            return;
+        }
+        if let Some(place) = self.word.get_mut(self.len) {
+            *place = byte;
+        }
+        self.len = self.len.saturating_add(1);
+    }
+
+    /// Ends a word, if one has begun.
+    fn end_word(&mut self) {
+        if self.len == 0 {
+            return;
+        }
+        let word = self.word.get(..self.len).unwrap_or(b"");
+        match self.place {
+            Place::Comment if word == b"vcdedit-amend:".as_slice() => self.has_part = true,
+            Place::FirstComment if word == b"vcdedit-amend".as_slice() => self.has_mark = true,
+            _ => {}
+        }
+        self.place = next_place(self.place, word);
+        self.len = 0;
+    }
+}
+
+/// What the words end with after one more.
+fn next_place(place: Place, word: &[u8]) -> Place {
+    match place {
+        Place::LastDeclaration if word == b"$end".as_slice() => Place::Body,
+        Place::Body if word == b"$comment".as_slice() => Place::FirstComment,
+        Place::Declarations | Place::Comment | Place::LastDeclaration => declared_place(word),
+        Place::Body | Place::FirstComment | Place::Over => Place::Over,
+    }
+}
+
+/// What words among the declarations end with, of which this is the last one.
+fn declared_place(word: &[u8]) -> Place {
+    if word == b"$comment".as_slice() {
+        return Place::Comment;
+    }
+    if word == b"$enddefinitions".as_slice() {
+        return Place::LastDeclaration;
+    }
+    Place::Declarations
+}

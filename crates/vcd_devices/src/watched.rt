@@ -1,0 +1,144 @@
+//! A source over a reader, which watches what is read.
+
+ghost use Rattle.std.specs.Prelude.{◌≡◌, false, IfOk};
+
+use crate::capture_search::CaptureSearch;
+use crate::progress::ProgressLine;
+use crate::reasons::tell_reason;
+use std::io::Read;
+use std::rt::Runtime;
+use std::{fs, io};
+use vcd_core::{DeviceFault, Source};
+use vcd_shell::{Origin, open_capture};
+
+/// A source over a reader, as `FromRead` of `vcd_core`: nothing is tried again.
+///
+/// What comes is searched for what there is to tell of a capture, and the line on the pass shows
+/// how far it is. If the reader fails, standard error has the reason.
+#[derive(Drop)]
+pub struct Watched<'a, R, F> {
+    rt: &'a R,
+    reader: F,
+    // none for standard input
+    path: Option<&'a str>,
+    failed: bool,
+    line: ProgressLine,
+    search: CaptureSearch,
+}
+
+impl<'a, R: Runtime + AllocGlobal, F: Read> Watched<'a, R, F> {
+    /// A source of the bytes that the reader of the file at `path` has left. Standard input has no
+    /// path.
+    pub fn new(rt: &'a R, reader: F, path: Option<&'a str>, line: ProgressLine) -> Watched<'a, R, F>
+        ensures { ⟦<Watched<'a, R, F> as Source>⟧.has_failed result ≡ false }
+    {
+        Watched {
+            rt,
+            reader,
+            path,
+            failed: false,
+            line,
+            search: CaptureSearch::new(),
+        }
+    }
+
+    /// What was found in the bytes that have come.
+    pub fn search(&self) -> CaptureSearch {
+        self.search
+    }
+
+    /// Takes the line from the terminal, if it is there.
+    pub fn clear(&mut self) {
+        self.line.clear(self.rt);
+    }
+}
+
+impl<'a, R: Runtime + AllocGlobal, F: Read> Source for Watched<'a, R, F> {
+    ghost coming = { λ device. F.remaining device.reader };
+
+    ghost has_failed = { λ device. device.failed };
+
+    fn read(&mut self, buffer: &mut [u8]) -> Result<usize, DeviceFault> {
+        if self.failed {
+            return Err(DeviceFault);
+        }
+        match self.reader.read(buffer) {
+            Ok(count) => {
+                self.search.go_on(&buffer[..count]);
+                self.line.add(self.rt, count as u64);
+                Ok(count)
+            }
+            Err(error) => {
+                self.failed = true;
+                self.line.clear(self.rt);
+                tell_if_named(self.rt, self.path, &error);
+                Err(DeviceFault)
+            }
+        }
+    }
+
+    fn failed(&self) -> bool {
+        self.failed
+    }
+}
+
+/// Opens a named file. If it can't be opened, the reason is told.
+pub fn open_named<'a, R: Runtime + AllocGlobal>(
+    rt: &'a R,
+    path: &'a str,
+) -> Result<Watched<'a, R, R::File>, DeviceFault>
+    ensures { IfOk result (λ s. ⟦<Watched<'a, R, R::File> as Source>⟧.has_failed s ≡ false) }
+{
+    open_watched(rt, path, ProgressLine::none())
+}
+
+/// Opens the file at a path, or standard input without a path or if it is `-`. If it can't be
+/// opened, the reason is told.
+pub fn open_input<'a, R: Runtime + AllocGlobal>(
+    rt: &'a R,
+    path: Option<&'a str>,
+) -> Result<Watched<'a, R, Origin<R::Reader, R::File>>, DeviceFault>
+    ensures { IfOk result (λ s.
+        ⟦<Watched<'a, R, Origin<R::Reader, R::File>> as Source>⟧.has_failed s ≡ false) }
+{
+    let named = named_path(path);
+    match open_capture(rt, path) {
+        Ok(reader) => Ok(Watched::new(rt, reader, named, ProgressLine::none())),
+        Err(error) => {
+            tell_if_named(rt, named, &error);
+            Err(DeviceFault)
+        }
+    }
+}
+
+/// The path of a file, if it does not mean standard input.
+fn named_path(path: Option<&str>) -> Option<&str> {
+    match path {
+        Some(path) if path == "-" => None,
+        _ => path,
+    }
+}
+
+/// Opens a named file for a pass with this line. If it can't be opened, the reason is told.
+pub fn open_watched<'a, R: Runtime + AllocGlobal>(
+    rt: &'a R,
+    path: &'a str,
+    line: ProgressLine,
+) -> Result<Watched<'a, R, R::File>, DeviceFault>
+    ensures { IfOk result (λ s. ⟦<Watched<'a, R, R::File> as Source>⟧.has_failed s ≡ false) }
+{
+    match fs::open(rt, path) {
+        Ok(reader) => Ok(Watched::new(rt, reader, Some(path), line)),
+        Err(error) => {
+            tell_reason(rt, path, &error);
+            Err(DeviceFault)
+        }
+    }
+}
+
+/// Tells why a file can't be opened or read, if it has a path.
+fn tell_if_named<R: Runtime + AllocGlobal>(rt: &R, path: Option<&str>, error: &io::Error) {
+    if let Some(path) = path {
+        tell_reason(rt, path, error);
+    }
+}

@@ -1,0 +1,3 @@
+-- Lemmas about captures that lack changes.
+pub mod shared
+pub mod worked

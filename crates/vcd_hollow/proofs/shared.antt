@@ -1,0 +1,12 @@
+-- Lemmas: shared.
+pub mod Outlines
+pub mod EditsWithOthers
+pub mod Origins
+pub mod Cuts
+pub mod ReplaysWithOthers
+pub mod SameSteps
+pub mod Hollow
+pub mod CommandsOfOutline
+pub mod HollowRuns
+pub mod FittingCuts
+pub mod HollowPart

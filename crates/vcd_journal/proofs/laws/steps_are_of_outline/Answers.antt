@@ -1,9 +1,0 @@
-use Rattle.vcd_journal.proofs.shared.OtherWaves.{replay_keeps_outlines}
-use Rattle.vcd_journal.proofs.shared.SameSteps.{steps_are_of_outline}
-use Rattle.vcd_journal.proofs.laws.steps_are_of_outline.Goals as goal
-
-pub returns-clause-steps : goal.returns-clause-steps
-returns-clause-steps c = steps_are_of_outline
-
-pub returns-clause-replay : goal.returns-clause-replay
-returns-clause-replay c = replay_keeps_outlines

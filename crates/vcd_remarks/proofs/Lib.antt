@@ -1,0 +1,3 @@
+-- Lemmas about remarks.
+pub mod worked
+pub mod shared

@@ -1,0 +1,2 @@
+-- Lemmas of `bus_doubts`.
+pub mod DoubtsOfEvents

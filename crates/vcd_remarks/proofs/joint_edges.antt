@@ -1,0 +1,2 @@
+-- Lemmas of `joint_edges`.
+pub mod JointTicks

@@ -1,0 +1,2 @@
+-- Lemmas of `laws`.
+pub mod SamplesOfWords

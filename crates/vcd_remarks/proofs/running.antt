@@ -1,0 +1,3 @@
+-- Lemmas of `running`.
+pub mod RemarksLeft
+pub mod LineRemarks

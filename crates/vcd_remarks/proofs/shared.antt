@@ -1,0 +1,3 @@
+-- Lemmas: shared.
+pub mod SessionRemarks
+pub mod RemarksOnHollow

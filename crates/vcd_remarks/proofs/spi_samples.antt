@@ -1,0 +1,2 @@
+-- Lemmas of `spi_samples`.
+pub mod EdgeTests

@@ -1,0 +1,2 @@
+-- Lemmas of `uart_edges`.
+pub mod EdgesLeft

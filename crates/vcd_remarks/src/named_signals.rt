@@ -1,0 +1,43 @@
+//! The signals that a command refers to.
+
+ghost use Rattle.std.specs.Prelude.{◌≡◌, ◌∷◌, [], Some, None};
+ghost use Rattle.std.specs.List.{filter_map};
+ghost use Rattle.vcd_remarks.specs.NamedSignals.{signals_of_edit, signals_of_command};
+
+use vcd_edit::Edit;
+use vcd_hollow::{waves_of_command, waves_read};
+use vcd_journal::Step;
+use vcd_script::Command;
+
+/// The positions of the signals that a command refers to.
+pub fn signals_of_command(command: &Command) -> [Option<usize>; 4]
+    ensures { filter_map (λ signal. signal) result ≡ signals_of_command command.now }
+{
+    match command {
+        Command::Step(Step::Edit(edit)) => signals_of_edit(edit),
+        Command::Nothing
+        | Command::Step(_)
+        | Command::List
+        | Command::Value { .. }
+        | Command::Changes { .. }
+        | Command::Uart { .. }
+        | Command::Spi { .. }
+        | Command::I2c { .. } => waves_of_command(command),
+    }
+}
+
+/// The positions of the signals that an edit refers to.
+fn signals_of_edit(edit: &Edit) -> [Option<usize>; 4]
+    ensures { filter_map (λ signal. signal) result ≡ signals_of_edit edit.now }
+{
+    match edit {
+        Edit::Rename { signal, .. } => [Some(*signal), None, None, None],
+        Edit::Remove { signal } => [Some(*signal), None, None, None],
+        Edit::Invert { .. }
+        | Edit::Shift { .. }
+        | Edit::Cut { .. }
+        | Edit::Deglitch { .. }
+        | Edit::Force { .. }
+        | Edit::Derive { .. } => waves_read(edit),
+    }
+}

@@ -1,0 +1,59 @@
+//! The runs of one value that the changes of a signal begin.
+
+ghost use Rattle.std.specs.Prelude.{◌≡◌};
+ghost use Rattle.vcd_core.specs.Contents.{signal_at};
+ghost use Rattle.vcd_core.specs.CaptureContents.{contents};
+ghost use Rattle.vcd_core.specs.Value.{all_x, letter_at};
+ghost use Rattle.vcd_remarks.specs.ValueRuns as runs;
+ghost use Rattle.vcd_remarks.specs.inside.remarks.Parts as inside;
+
+use vcd_core::{Bit, Capture, Change, Value};
+
+/// The changes of the signal at a position; none if there is no signal.
+pub fn changes_at(capture: &Capture, signal: usize) -> &[Change]
+    ensures { result.now ≡ (signal_at (contents capture.now) signal).changes }
+{
+    match capture.signals().get(signal) {
+        Some(found) => found.wave.changes(),
+        None => &[],
+    }
+}
+
+/// The value of the signal at a position before its changes: all x.
+pub fn x_value_at(capture: &Capture, signal: usize) -> Value
+    ensures { result ≡ all_x (signal_at (contents capture.now) signal).width }
+{
+    match capture.signals().get(signal) {
+        Some(found) => Value::filled(found.wave.width(), Bit::X),
+        None => Value::filled(1, Bit::X),
+    }
+}
+
+/// Whether the first change is at tick 0.
+pub fn begins_at_zero(changes: &[Change]) -> bool
+    ensures { result ≡ inside.begins_at_zero changes.now }
+{
+    match changes {
+        [first, ..] => first.tick == 0,
+        [] => false,
+    }
+}
+
+/// The last tick before these changes, in a capture up to this end.
+pub fn tick_before(changes: &[Change], end: u64) -> u64
+    ensures { result ≡ runs.tick_before end changes.now }
+{
+    match changes {
+        [first, ..] => first.tick.saturating_sub(1),
+        [] => end,
+    }
+}
+
+/// The letter of a change of a line of one bit.
+pub fn letter_of(change: &Change) -> Bit
+    ensures { result ≡ letter_at change.now.value 0 }
+{
+    // its clause bounds the width
+    let _width = change.value.width();
+    change.value.bit(0)
+}

@@ -1,0 +1,3 @@
+//! Lines, carried out one after another.
+
+pub mod remark_on_lines;

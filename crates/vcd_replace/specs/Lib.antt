@@ -1,0 +1,2 @@
+-- The definitions of how a file is replaced.
+pub mod Names

@@ -1,5 +1,0 @@
-use Rattle.vcd_script.proofs.shared.HollowPart.{hollow_is_part}
-use Rattle.vcd_script.proofs.laws.hollow_captures_are_parts.Goals as goal
-
-pub returns : goal.returns
-returns c = hollow_is_part

@@ -1,5 +1,0 @@
-use Rattle.vcd_script.proofs.shared.SessionRemarks.{session_remarks_are_run}
-use Rattle.vcd_script.proofs.laws.session_remarks_are_run.Goals as goal
-
-pub returns : goal.returns
-returns c = session_remarks_are_run

@@ -1,2 +1,0 @@
--- Lemmas of `copying/ended_items`.
-pub mod Shown

@@ -1,2 +1,0 @@
--- Lemmas of `writing/output`.
-pub mod Pieces
