@@ -11,12 +11,13 @@ MADE = share/vcdedit/made
 FOLDERS = prefix="$(PREFIX)"; case $$prefix in /*) ;; *) prefix="$$PWD/$$prefix" ;; esac; root="$(DESTDIR)$$prefix"
 
 all: build
-	@echo "vcdedit is built: ./vcdedit runs it."
+	@echo "The programs are built: ./vcdedit and ./vcdedit-amend run them."
 	@sed -n 's/^\([a-z]*\):[^#]*## /make \1: /p' Makefile
 
-# `./vcdedit` proves and builds the programs where they are missing or old.
+# Each proves and builds its program where that is missing or old.
 build:
 	@./vcdedit -i examples/handshake.vcd --script /dev/null
+	@./vcdedit-amend -i examples/handshake.vcd --script /dev/null
 
 install: build ## to /usr/local, or PREFIX=FOLDER; DESTDIR=FOLDER goes before that, for a package
 	@set -e; umask 022; $(FOLDERS); \
