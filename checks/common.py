@@ -7,6 +7,7 @@ import re
 import shutil
 import subprocess
 import sys
+import tempfile
 
 CHECKS = os.path.dirname(os.path.abspath(__file__))
 TOP = os.path.dirname(CHECKS)
@@ -21,8 +22,16 @@ EXAMPLES = os.path.join(TOP, "examples")
 INSTALLED = """vcdedit vcdedit-amend launch CHANGELOG.md Makefile crates.txt completions docs examples generate
     tools""".split()
 SECONDS = 120
+# Whether the programs are built without a proof, with checks at run time (checks/quick --unproved): then each takes far
+# more memory and time than a program does.
+IS_UNPROVED = "UNPROVED" in os.environ
 # The crates of the programs. What the prover said of each is in its out/proof.txt (generate/proofs).
 PROGRAMS = ["vcdedit", "vcdedit_amend"]
+# What programs hold in files (TMPDIR) is in a folder of each check's own, so that no check takes a name from another.
+HELD = tempfile.TemporaryDirectory(prefix="vcdedit-check-")
+os.environ["TMPDIR"] = HELD.name
+# The outcome of what this machine can't check.
+SKIPPED = object()
 
 
 def load(*path):
@@ -101,6 +110,15 @@ def module_of(script):
     return module
 
 
+def with_those_below(crate):
+    """A crate, and those of crates.txt that it stands on."""
+    below = dict(re.findall(r"^(\w+):(.*)$", text_at("crates.txt"), flags=re.M))
+    crates = [crate]
+    for one in crates:
+        crates += [name for name in below[one].split() if name in below and name not in crates]
+    return crates
+
+
 def amend_of(program):
     """The vcdedit-amend that was built beside a vcdedit, in the tree of its crate, or else next to it."""
     folder = program.removesuffix("/vcdedit/out/vcdedit")
@@ -124,21 +142,27 @@ def lay_out(program, folder):
 
 
 def program_argument(usage, most=1):
-    """The path of the program that a check is given, or the check's usage where there is no such program."""
-    if not 2 <= len(sys.argv) <= 1 + most or not os.access(sys.argv[1], os.X_OK):
+    """The path of the program that a check is given. The check ends where there is none."""
+    if not 2 <= len(sys.argv) <= 1 + most:
         sys.exit(usage)
+    if not os.access(sys.argv[1], os.X_OK):
+        sys.exit("there is no program %s: `rt ci` builds it, or `rt run` in the folder of its crate" % sys.argv[1])
     return os.path.abspath(sys.argv[1])
 
 
 class Report:
-    """How many checks passed and failed. A failure is shown as it is found."""
+    """How many checks passed and failed, and which were skipped. A failure is shown as it is found."""
 
     def __init__(self):
         self.passed = self.failed = 0
+        self.skipped = []
 
     def check(self, holds, failure):
-        """Counts one check, which may fail with this line, and gives whether it holds."""
-        if holds:
+        """Counts one check, which may fail with this line, and gives whether it holds. One that is skipped has in the
+        line what is missing."""
+        if holds is SKIPPED:
+            self.skipped.append(failure)
+        elif holds:
             self.passed += 1
         else:
             self.failed += 1
@@ -155,13 +179,17 @@ class Report:
     def add(self, name, status, shown):
         """Adds what another check counted, by the last line that it printed. Its status must say the same. One that counts
         nothing has failed."""
-        counts = re.search(r"^(\d+) passed, (\d+) failed\n\Z", shown, re.M)
-        passed, failed = map(int, counts.groups()) if counts else (0, 0)
+        counts = re.search(r"^(?:\d+ skipped: (.*)\n)?(\d+) passed, (\d+) failed\n\Z", shown, re.M)
+        skipped, passed, failed = counts.groups() if counts else (None, 0, 0)
+        passed, failed = int(passed), int(failed)
+        self.skipped += skipped.split("; ") if skipped else []
         self.passed, self.failed = self.passed + passed, self.failed + failed
         if passed + failed == 0 or (status != 0) != (failed != 0):
             self.check(False, "%s: status %d after %d passed, %d failed" % (name, status, passed, failed))
 
     def end(self):
         """Says how many there were, and ends the check."""
+        if self.skipped:
+            print("%d skipped: %s" % (len(self.skipped), "; ".join(self.skipped)))
         print("%d passed, %d failed" % (self.passed, self.failed))
         sys.exit(1 if self.failed else 0)

@@ -27,10 +27,13 @@ Annotation = collections.namedtuple("Annotation", "first last text")
 def options_of(parser, words):
     """The options of a parser, with a capture and the lines of a script, as bytes."""
     add = parser.add_argument
-    add("capture", metavar="CAPTURE", help="the capture, which stays as it is; - is standard input")
-    add("lines", metavar="LINE", nargs="*", default=[], help="lines of a script, such as 'i2c bench.scl bench.sda'")
+    told = "the capture, which stays as it is, or - for standard input; lines of a script, as 'i2c bench.scl bench.sda'"
+    add("words", metavar="CAPTURE LINE", nargs="*", help=told)
     add("--script", metavar="SCRIPT", help="a file with the lines")
-    options = parser.parse_intermixed_args(words)
+    # Python parses words behind `--` only if no options may stand between the others.
+    place = words.index("--") if "--" in words else len(words)
+    options = parser.parse_intermixed_args(words[:place])
+    options.capture, *options.lines = [*options.words, *words[place + 1 :]] or parser.error("there is no CAPTURE")
     if options.script is not None and options.lines:
         parser.error("the lines are those of --script, or words")
     text = os.fsencode("\n".join(options.lines))

@@ -279,8 +279,10 @@ def ticks_of(time, timescale):
 
 def matcher(pattern):
     """A test of full names by a pattern: `*` stands for any bytes, `?` for any one, and all else for itself."""
-    letters = re.escape(os.fsencode(pattern)).replace(rb"\*", b".*").replace(rb"\?", b".")
-    return re.compile(letters, re.DOTALL).fullmatch
+    first, *rest = re.escape(os.fsencode(pattern)).replace(rb"\?", b".").split(rb"\*")
+    # What is between two stars is sought once: of a group in a look-ahead no other place is tried.
+    between = (b"(?=(?P<p%d>.*?%s))(?P=p%d)" % (place, part, place) for place, part in enumerate(rest[:-1]))
+    return re.compile(b"".join([first, *between, *(b".*" + part for part in rest[-1:])]), re.DOTALL).fullmatch
 
 
 def what_else(prefix):
@@ -324,14 +326,21 @@ def parser_of(name, text, *operands):
     usage = "\n       ".join("%s [OPTION..] %s" % (name, words) for words in operands)
     more = "`man %s` says more of each option, and explains the statuses." % name
     parser = argparse.ArgumentParser(name, usage, text, more, allow_abbrev=False)
+    # A wrong word is shown as a name is.
+    parser.error = lambda message: (parser.print_usage(sys.stderr), tell(name, "error: " + message), sys.exit(2))
     parser.add_argument("-V", "--version", action="version", version="%s %s" % (name, VERSION))
     return parser
+
+
+def in_one_line(text):
+    """A text whose line feeds make no line but an indented one, as those of a path would."""
+    return re.sub(r"\n(?!    )", r"\\x0a", text)
 
 
 def tell(name, *lines):
     """Writes lines about what has this name to standard error. If that can't be written, the status tells the rest."""
     with contextlib.suppress(OSError), output(2) as stream:
-        stream.write("%s: %s\n" % (name, "\n    ".join(lines)))
+        stream.write(in_one_line("%s: %s" % (name, "\n    ".join(lines))) + "\n")
 
 
 def end(name, main, status_of_trouble=None):

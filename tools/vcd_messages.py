@@ -53,9 +53,7 @@ def told_end(errors, file):
     fault = re.fullmatch(r"capture line ([0-9]+): (\w+)", reason)
     if fault:
         return told_fault(file, int(fault[1]), fault[2])
-    if reason == "capture: read fault":
-        return [reason, *before]
-    return ENDINGS.get(reason, [reason])
+    return ENDINGS.get(reason, [reason, *before] if reason == last else [reason])
 
 
 def told_fault(file, number, name):

@@ -16,14 +16,16 @@ from vcd_files import NO_ROOM, Trouble, program, shown
 INTERRUPTIONS = [signal.Signals["SIG" + name] for name in "INT TERM HUP QUIT ALRM USR1 USR2 XCPU".split()]
 # The commands of a script that edit.
 EDITS = b"rename remove invert shift cut deglitch force derive".split()
-# Commands with one reply. Other lines have another number; the line that is refused behind each ends its replies.
-ONE_REPLY, LAST = EDITS + b"undo redo depth value".split(), b"\n-"
+# Commands with one reply, but `changes`, whose replies go on while later ticks follow. Other lines have another number;
+# the line that is refused behind each ends its replies.
+ENDED, LATER = {*EDITS, *b"undo redo depth value changes".split()}, re.compile(rb"[1-9][0-9]* \S+\n").fullmatch
+LAST = b"\n-"
 # Remarks of vcdedit-amend on a line, by its number, and on its output and the capture, on standard error.
 REMARK, OF_CAPTURE = re.compile(r"^line (\d+): (.*)\n", re.M), "capture: the last line"
 FILE_REMARK = re.compile("^(?:output:|%s) .*" % OF_CAPTURE, re.M)
 # Lines there that are no error: remarks, what vcdedit-amend says of memory while it reads, and first-look of its build.
 NO_ERROR = re.compile(
-    r"^(?:line \d+:|output:|%s|vcdedit-amend: memory may run out:|first-look:) .*\n" % OF_CAPTURE, re.M)
+    r"^(?:line \d+:|output:|%s|vcdedit-amend: memory may run out:|first-look(?:-amend)?:) .*\n" % OF_CAPTURE, re.M)
 # What a run begins with so that it ends with the tool, even if that is killed.
 GUARD = ["setpriv", "--pdeathsig", "TERM"] if shutil.which("setpriv") else []
 
@@ -56,9 +58,10 @@ class Run:
         `lines` are None, it has no script."""
         self.source, self.lines, self.program = source, lines, program(name)
         # The numbers of the lines in the script below.
-        self.numbers = list(itertools.accumulate((1 if has_one_reply(line) else 2 for line in lines or ()), initial=2))
+        texts = [line + LAST * (command_of(line) not in ENDED) + b"\n" for line in lines or ()]
+        self.numbers = list(itertools.accumulate((text.count(b"\n") for text in texts), initial=2))
         with open(os.memfd_create("script"), "wb") as script:
-            script.write(b"list\n" + b"".join(line + LAST * (not has_one_reply(line)) + b"\n" for line in lines or ()))
+            script.write(b"list\n" + b"".join(texts))
             script.flush()
             by_script = ["--script", "/dev/fd/%d" % script.fileno()] if lines is not None else []
             words = [*GUARD, self.program, "-i", path, *by_script, *words]
@@ -86,10 +89,15 @@ class Run:
 
     def replies(self):
         """(place of a line, reply) of each reply to the lines."""
+        ahead = []
+        replies = iter(lambda: ahead.pop() if ahead else self.child.stdout.readline(), b"")
         for place, line in enumerate(self.lines):
             last = b"line %d: refused: UnknownCommand\n" % (self.numbers[place] + 1)
-            replies = itertools.takewhile(last.__ne__, self.child.stdout)
-            for reply in itertools.islice(replies, 1 if has_one_reply(line) else None):
+            said, command = itertools.takewhile(last.__ne__, replies), command_of(line)
+            if command in ENDED:
+                later = itertools.takewhile(lambda one: LATER(one) or ahead.append(one), replies)
+                said = itertools.chain(itertools.islice(replies, 1), later if command == b"changes" else ())
+            for reply in said:
                 yield place, reply[:-1]
         self.want_end()
 
@@ -121,10 +129,6 @@ class Run:
 
 def command_of(line):
     return b"".join(line.split()[:1])
-
-
-def has_one_reply(line):
-    return command_of(line) in ONE_REPLY
 
 
 def refusal_of(reply):

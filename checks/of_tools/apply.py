@@ -22,12 +22,16 @@ $var wire 1 ! rx $end $var wire 4 " q [3:0] $end $var real 64 # volts $end
 $upscope $end $enddefinitions $end
 #0 1! b0 " r1.5 # $comment seen $end #5 0! #6 1! #20 b101 " #30
 """
+AS_LINE = ", end 30, timescale 1 us"
 SCRIPT, DONE, MODE = "rename tb.rx tx\n", LINE.replace(" rx ", " tx "), 0o640
+PART = "$timescale 1 us $end $scope module tb $end\n$var wire 1 ! tx $end\n$upscope $end $comment vcdedit-amend: "
+PART += "ticks 5 to 25 variables 1 of 3 $end\n$enddefinitions $end $comment seen $end\n#0\n0! #1 1!\n#20\n"
 MARK = "$comment vcdedit-amend %s\nread A %d bytes SHA-256 %s\nedit %s$end\n"
 MARK %= VERSION, len(LINE), hashlib.sha256(LINE.encode()).hexdigest(), SCRIPT
 ODD, NO_TEXT = "\N{EURO SIGN} odd\n-name", os.fsdecode(b"\xff")
 FILES = {
     **dict.fromkeys(["A", "B", "B.orig", "fixed", "kept/A", "sub/p", ODD, NO_TEXT], LINE),
+    "inuse/p": LINE, "inuse/.p.vcdedit": "of another", "late": LINE.replace("1 us", "1 ns").replace("#30", "#40"),
     "packed": gzip.compress(LINE.encode()), "faulty": "#0\n", "analog": LINE + "A0: -10 V\n", "torn": LINE + "#9\n",
     "some": "value tb.rx 5\nundo\n" + SCRIPT, "named": "rename tb.rx volts\n", "vast": "#\n" * 600000,
     "wild": "value %s 3\nvalue x\0y 3\n" % ("x" * 2**17), "asks": "# a comment\n\n  changes tb.rx \nvalue tb.rx 5\n",
@@ -40,8 +44,21 @@ WRITER = "another program writes it: run again when that has ended"
 # Words, the status, what is shown, the texts of all files that change or come, and parts of what is told besides.
 RUNS = [
     ("script link --backup .old", 0, ["link: written: 1 ok"], {"sub/p": DONE, "sub/p.old": LINE}),
-    ("script A --to new/folder", 0, ["A: written to new/folder/A: 1 ok"], {"new/folder/A": DONE}),
-    ("script " + shlex.quote("./" + ODD), 0, ["./\N{EURO SIGN} odd", "-name: written: 1 ok"], {ODD: DONE}),
+    ("script A --into new/folder", 0, ["A: written to new/folder/A: 1 ok"], {"new/folder/A": DONE}),
+    ("script A A.old --into new --jobs 2", 0, ["2 written, 0 not, status 0", "A.old: written to new/A.old: 1 ok",
+     "A: written to new/A: 1 ok"], {"new/A": DONE, "new/A.old": DONE}),
+    ("script A B late --dry-run", 0, ["A: would be written: 1 ok", "B: would be written: 1 ok",
+     "late: would be written: 1 ok, end 40, timescale 1 ns", "3 would be written, 0 not, status 0"], {},
+     "vcdedit-apply: the captures have different timescales\n    1 us: A, B\n    1 ns: late\n",
+     "vcdedit-apply: the captures have different last ticks\n    30: A, B\n    40: late\n"),
+    ("script A --into new --keep tb.* --remove *.q* --remove *volts --from 5us --to 25us", 0,
+     ["A: written to new/A: 1 ok, end 20, timescale 1 us"], {"new/A": PART}, ": output: lines and replies have"),
+    ("asks A --into new --keep tb.r", 1,
+     ["A: not written: UnmetPattern: a pattern matches no variable's full name"], {},
+     "\n    no variable's full name is tb.r\n      near: tb.rx\n"),
+    ("script A --into A/x --dry-run", 4, ["A: not written: FOLDER/A/x: Not a directory"], {}),
+    ("script B --into A --dry-run", 4, ["B: not written: FOLDER/A is no folder in which files may be made"], {}),
+    ("script " + shlex.quote("./" + ODD), 0, ["./\N{EURO SIGN} odd\\x0a-name: written: 1 ok"], {ODD: DONE}),
     ("script faulty A --jobs 4", 3, ["1 written, 1 not, status 3", "A: written: 1 ok", GLOB[1]], {"A": DONE}, "line 1"),
     ("some A", 1, ["A:1: 0", "A: as it was: 1 line refused"], {}, "A: some line 2: undo: NothingToUndo\n"),
     ("some A --keep-going", 1, ["A:1: 0", "A: written: 1 ok, 1 line refused"], {"A": DONE}, "A: some line 2: undo: "),
@@ -66,15 +83,16 @@ RUNS = [
     ("script torn", 3, ["torn: as it was: line 5: #9: TimeBackwards"], {}, "cut off"),
     ("vast A", 3, ["A: as it was: script: too large"], {}),
     ("none A", 4, [], {}, "none: No such file"), ("sub A", 4, [], {}, "sub: Is a directory"),
-    ("script A --to ''", 4, [], {}, "No such file"), ("script A --jobs 0", 2, [], {}, "--jobs is 1 or more"),
+    *(("script A --%s ''" % word, 2, [], {}, "--into and --backup want a word") for word in ("into", "backup")),
+    ("script A --to 9", 2, [], {}, "name it by --into"), ("script A --jobs 0", 2, [], {}, "--jobs is 1 or more"),
     ("script A --jobs 1_0", 2, [], {}, "--jobs is 1 or more"),
     ("script A ./A", 2, [], {}, "two captures would be one file: A and ./A"),
-    ("script A kept/A --to sub", 2, [], {}, "two captures would be one file: A and kept/A"),
+    ("script A kept/A --into sub", 2, [], {}, "two captures would be one file: A and kept/A"),
     # A program that has the capture open does not write it.
     ("script A 7<A", 0, ["A: written: 1 ok"], {"A": DONE}),
     # A standard stream is closed or full: each line comes on the other, or not at all.
     ("script A B >&-", 4, [], {}, "standard output: Bad file descriptor"),
-    ("script A B >/dev/full", 4, [], BOTH, "A: written: 1 ok\n", "B: written: 1 ok\n"),
+    ("script A B >/dev/full", 4, [], BOTH, *("%s: written: 1 ok%s\n" % (name, AS_LINE) for name in "AB")),
     ("some A --keep-going 2>&-", 1, ["A:1: 0", "A: written: 1 ok, 1 line refused"], {"A": DONE}),
     ("some A --keep-going 2>/dev/full", 1, ["A:1: 0", "A: written: 1 ok, 1 line refused"], {"A": DONE}),
     ("script A B <&-", 0, BOTH_WRITTEN, BOTH),
@@ -85,11 +103,13 @@ STAYS = {
     "lost": "as it was: No such file or directory",
     "pipe": "as it was: is no regular file",
     "fixed": "as it was: OutputProtected: the output is write-protected",
-    "A --to kept": "not written: OutputProtected: the output is write-protected",
-    "B --to kept": "not written: FOLDER/kept/B is the capture, or no regular file",
-    "sub/p --to kept": "not written: FOLDER/kept/p is the capture, or no regular file",
-    "A --to .": "not written: FOLDER/A is the capture, or no regular file",
+    "A --into kept": "not written: OutputProtected: the output is write-protected",
+    "B --into kept": "not written: FOLDER/kept/B is the capture, or no regular file",
+    "sub/p --into kept": "not written: FOLDER/kept/p is the capture, or no regular file",
+    "A --into .": "not written: FOLDER/A is the capture, or no regular file",
     "A.old --backup .old": "as it was: is a backup: its name ends in .old",
+    "A --backup " + "x" * 255: "as it was: FOLDER/A%s: File name too long" % ("x" * 255),
+    "inuse/p": "as it was: OutputInUse: another run writes it; if none does, remove FOLDER/inuse/.p.vcdedit",
     "A 7<>A": "as it was: " + WRITER,
     NO_TEXT: "as it was: its path is no UTF-8 text, which vcdedit-amend wants",
 }
@@ -116,9 +136,9 @@ FAILING = [
     (WRITES, "echo 'vcdedit-amend: out of memory' >&2; exit 5", 5, "out of memory"),
     (WRITES, "echo 'vcdedit-amend: NameOfSkipped: a name' >&2; exit 1", 1, "NameOfSkipped: a name"),
     (WRITES, "kill -XFSZ $$", 4, "the new capture is larger than a file may be (ulimit -f)"),
-    (WRITES, "echo half > .B.vcdedit; kill -9 $$", 5,
+    (WRITES, "echo half > .B.vcdedit/.B.vcdedit; kill -9 $$", 5,
      "the run was ended by signal 9; without memory the system does that"),
-    (WRITES, "kill -TERM $$", 143, "interrupted"),
+    (WRITES, "cp -f --remove-destination script .B.vcdedit/B; kill -TERM $$", 143, "interrupted"),
     (WRITES, "exit 7", 7, "vcdedit does not say why it ended"),
     (ASKS, r"printf 'vcdedit-amend: %s\n' 'B: no reason' 'capture: read fault' >&2; exit 4", 4, "capture: read fault",
      "B: capture: read fault\n    B: no reason\n"),
@@ -153,7 +173,7 @@ class Folder:
     def check(self, words, status, shown, texts, *told, **how):
         """Whether a run ends so, shows this, gives files these texts and the mode, changes no other, and tells this."""
         before, (ended, lines, errors), after = self.files(), self.run(words, **how), self.files()
-        lines = [line.replace(self.folder, "FOLDER") for line in lines]
+        lines = [line.replace(self.folder, "FOLDER").replace(AS_LINE, "") for line in lines]
         changes = {path: after.get(path) for path in {**before, **after} if before.get(path) != after.get(path)}
         right = (ended, sorted(lines) if "--jobs" in words else lines) == (status, shown)
         right &= changes == {path: (text, MODE) for path, text in texts.items()}
@@ -187,8 +207,9 @@ def fails():
         lines.append("2 written, 1 not, status %d" % status)
         told += ["vcdedit-apply: to go on, name only these: B\n"] * (status > 3)
         yield place.check("script A B C --backup .orig", status, lines, both, *told)
-    place = Folder("fails/done", files, WRITES, "cp -p script new; mv new B; kill -TERM $$")
-    yield place.check("script A B", 0, BOTH_WRITTEN, {"A": DONE, "B": SCRIPT})
+    # A link that comes while the program runs is replaced, and not followed.
+    place = Folder("fails/link", {"A": LINE, "out/A": LINE}, "*-o*", "ln -s ../out/A new/A")
+    yield place.check("script A --into new", 0, ["A: written to new/A: 1 ok"], {"new/A": DONE})
 
 
 def remarks():
@@ -226,10 +247,10 @@ def interrupted():
     lines = ["A: written: 1 ok", "B: as it was: interrupted", "C: as it was: interrupted"]
     for number in (signal.Signals["SIG" + name] for name in "INT TERM HUP QUIT ALRM USR1 USR2 XCPU KILL".split()):
         # The check waits as long as the run has the tool's standard output.
-        act = "exec 5> .B.vcdedit 6> /proc/$PPID/fd/1; kill -%d $PPID; exec sleep 20" % number
+        act = "exec 6> /proc/$PPID/fd/1; kill -%d $PPID; exec sleep 20" % number
         place = Folder("interrupted/%d" % number, dict.fromkeys("ABC", LINE), WRITES, act)
         if number == signal.SIGKILL:
-            yield place.check("script A B C", -number, lines[:1], {"A": DONE, ".B.vcdedit": ""}, timeout=10)
+            yield place.check("script A B C", -number, lines[:1], {"A": DONE, ".B.vcdedit/B": LINE}, timeout=10)
             continue
         ends = [*lines, "1 written, 2 not, status %d" % (128 + number)]
         # The tool gets the signal even if this check was started with it ignored, as `nohup` does.
@@ -248,35 +269,14 @@ def alone():
     for _ in range(8):
         store("alone/A", text=toggling(5000, declared))
         place.run('to_x A > x & "$0" to_y A > y; wait')
-        are_written = [load("alone", name) == b"A: written: 1 ok\n" for name in "xy"]
+        are_written = [load("alone", name) == b"A: written: 1 ok, end 5000, timescale none\n" for name in "xy"]
         are_there = [b" %s2 " % name in load("alone/A") for name in (b"x", b"y")]
         seen.add((are_written == are_there, any(are_written)))
     yield "two runs at once: %s" % seen, seen == {(True, True)}
-
-
-def without_memory():
-    """Whatever memory the tool has, each capture has one line, or none is begun. It is whole either way."""
-    place = Folder("without_memory", {"script": "rename rx tx\n"}, ANY, "ulimit -S -v unlimited")
-    old, seen = toggling(2000, "$var wire 1 ! rx $end\n"), set()
-
-    # A limit is in quarters of a MiB: what lies between a start and a run may be less than one.
-    def limited(quarters, words):
-        limit = lambda: resource.setrlimit(resource.RLIMIT_AS, (quarters << 18, resource.RLIM_INFINITY))
-        return place.run(words, preexec_fn=limit)
-
-    # With less, Python does not begin.
-    least = next(quarters for quarters in range(40, 360) if limited(quarters, "--version")[0] == 0)
-    for more, jobs in itertools.product((0, 1, 2, 4, 8, 16, 240), "13"):
-        for name in "ABC":
-            store("without_memory", name, text=old)
-        status, shown, errors = limited(least + more, "script A B C --jobs " + jobs)
-        seen.add(status)
-        texts = {name: load("without_memory", name).decode() for name in "ABC"}
-        ends = sorted(line for line in shown if line[1] == ":")
-        new = {line[0]: old.replace(" rx ", " tx ") for line in ends if line[1:] == ": written: 1 ok"}
-        right = texts == {**dict.fromkeys("ABC", old), **new} and [line[0] for line in ends] in ([], [*"ABC"])
-        yield "%d quarters, %s jobs: %s" % (least + more, jobs, (status, shown, errors)), right
-    yield "statuses without memory: %s" % seen, seen == {0, 5}
+    store("alone/A", text=toggling(5000, declared))
+    for _ in range(4):
+        lines, errors = place.run('to_x A --into one & "$0" to_y A --into two; wait')[1:]
+        yield "two runs that only read: %s, %s" % (lines, errors), [" ok, end" in line for line in lines] == [True] * 2
 
 
 def ends():
@@ -284,11 +284,11 @@ def ends():
     tool, path, patch = module_of("tools/vcdedit-apply"), os.path.abspath("A"), unittest.mock.patch
     for change, ended, told in (
         (patch("os.access", return_value=False), (4, False),
-         "as it was: %s: no permission to write in this folder" % os.getcwd()),
+         "as it was: %s is no folder in which files may be made" % os.getcwd()),
         (patch.object(vcd_runs.Run, "listing", side_effect=MemoryError), (5, False), "as it was: out of memory"),
         (patch.object(vcd_runs.Run, "listing", side_effect=KeyError("e")), (4, False), "as it was: KeyError: 'e'"),
-        # When all is done.
-        (patch.object(tool, "tell_output", side_effect=MemoryError), (0, True), "written: 1 ok"),
+        # In the moment in which the capture is replaced another program opens it.
+        (patch.object(tool, "has_writer", side_effect=[False, True]), (4, False), "as it was: " + WRITER),
     ):
         store(path, text=LINE)
         work = tool.Work(tool.options_of([store("script", text=SCRIPT), path]))
@@ -299,6 +299,6 @@ def ends():
 
 
 def check():
-    for part in runs, fails, remarks, many_names, interrupted, alone, without_memory, ends:
+    for part in runs, fails, remarks, many_names, interrupted, alone, ends:
         for name, right in part():
             yield "%s: %s" % (part.__name__, name), right

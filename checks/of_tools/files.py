@@ -5,13 +5,15 @@ import itertools
 import os
 import pty
 import resource
+import shutil
 import signal
 import subprocess
+import time
 import unittest.mock
 
 import vcd_files
 import vcd_runs
-from common import TOP, run, store, store_program, toggling
+from common import IS_UNPROVED, TOP, load, run, store, store_program, toggling
 
 # A text, a timescale, and the tick, or None where it is refused.
 TIMES = [
@@ -85,26 +87,32 @@ def starts():
 
 
 def without_memory():
-    """Each tool in ever less memory, and with programs in ever less. It ends as in ample memory, or with status 5."""
-    path, line = store("long", text=toggling(5000)), "uart x 2 8 none 1"
-    words = {"apply": ["--dry-run", store("script", text="invert x\n"), path], "table": [path, line],
+    """Each tool in ever less memory, and with programs in ever less. It ends as in ample memory, or with status 5. A
+    capture is edited if that is shown, and else as it was."""
+    path, line, names = store("long", text=toggling(5000)), "uart x 2 8 none 1", ["A", "B", "C"]
+    words = {"apply": ["--jobs", "2", store("script", text="invert x\n"), *names], "table": [path, line],
              "compare": ["--strict", path, path], "view": ["-o", "v.vcd", path, line]}
+    for name in names:
+        shutil.copy(path, name)
     environment = {**os.environ, "TMPDIR": os.getcwd()}
 
     def limited(tool, megabytes, kilobytes, *words):
         for name in ("VCDEDIT", "VCDEDIT_AMEND"):
             environment[name] = store_program("./" + name, text=LIMITED % (kilobytes, os.environ[name]))
-        limit = lambda: resource.setrlimit(resource.RLIMIT_AS, (megabytes << 20, resource.RLIM_INFINITY))
-        return run([os.path.join(TOP, "tools/vcdedit-" + tool), *words], env=environment, preexec_fn=limit)
+        limit = lambda: resource.setrlimit(resource.RLIMIT_AS, (int(megabytes * 2**20), resource.RLIM_INFINITY))
+        before = [load(name) for name in names]
+        ended = run([os.path.join(TOP, "tools/vcdedit-" + tool), *words], env=environment, preexec_fn=limit)
+        edited = [load(name) != text for name, text in zip(names, before)]
+        return *ended, edited == ["\n%s: written: 1 ok" % name in "\n" + ended[1] for name in names]
 
     for tool in words:
         # With less, Python does not begin.
         least = next(size for size in range(10, 90) if limited(tool, size, "unlimited", "--version")[0] == 0)
-        limits = [(least + more, "unlimited") for more in (*range(6), 60)]
+        limits = [(least + more, "unlimited") for more in (0, 0.25, 0.5, 0.75, 1, 2, 3, 4, 5, 60)]
         limits += [(1 << 20, 1 << size) for size in range(10, 20)]
         ends = [limited(tool, *limit, *words[tool]) for limit in limits]
-        found = {(end[0], "differ" in end[1] or "Traceback" in end[2]) for end in ends}
-        yield "statuses of %s without memory: %s" % (tool, found), found == {(0, False), (5, False)}
+        found = {(end[0], "differ" in end[1] or "Traceback" in end[2], end[3]) for end in ends}
+        yield "statuses of %s without memory: %s" % (tool, found), found == {(0, False, True), (5, False, True)}
 
 
 def on_a_terminal():
@@ -114,11 +122,11 @@ def on_a_terminal():
         store(letter, text=b"$var wire 1 ! %s $end $enddefinitions $end #0 %d! #5" % (name, place))
     store("script", text="list\n")
     environment = {**os.environ, "PYTHONUTF8": "0", "PYTHONCOERCECLOCALE": "0"}
-    tools = ["vcdedit-compare", "a", "b"], ["vcdedit-apply", "script", "a"]
+    tools = ["vcdedit-compare", "a", "b"], ["vcdedit-apply", "script", "a"], ["vcdedit-table", b"--" + name]
     for locale, (tool, *words) in itertools.product(("C.UTF-8", "C"), tools):
         words = [os.path.join(TOP, "tools", tool), *words]
         how = {"env": {**environment, "LC_ALL": locale}}
-        yield "names in a file, %s" % locale, name in run(words, text=False, **how)[1]
+        yield "names in a file, %s" % locale, name in b"".join(run(words, text=False, **how)[1:])
         terminal, side = pty.openpty()
         subprocess.run(words, stdout=side, stderr=side, **how)
         found = os.read(terminal, 10000)
@@ -136,17 +144,20 @@ def not_built():
 
 
 def long_ones():
-    """A script of nearly a MiB, and a word that is longer than many reads."""
-    lines = [b"invert r"] * 116000
-    path = store("c", text="$var wire 1 ! r $end $enddefinitions $end #0 0! #5")
-    with open(path, "rb") as source, vcd_runs.Run(source, lines) as one:
-        one.listing()
-        found = list(one.replies())
-    yield "a script of %d bytes" % (9 * len(lines)), found == [(place, b"ok") for place in range(len(lines))]
+    """Scripts of nearly a MiB, a word that is longer than many reads, and a pattern with many stars."""
+    path = store("c", text="$var wire 1 ! r $end $enddefinitions $end #0 0! #3 1! #5")
+    for line, said in (b"invert r", [b"ok"]), (b"changes r", [b"0 0", b"3 1"]):
+        with open(path, "rb") as source, vcd_runs.Run(source, [line.ljust(1047)] * 1000) as one:
+            one.listing()
+            found = list(one.replies())
+        yield "many long lines %s" % line, found == [(place, reply) for place in range(1000) for reply in said]
     with open(store("word", text=b"x" * (200 * vcd_files.CHUNK) + b" y"), "rb") as file:
         reads = unittest.mock.Mock(wraps=file)
         words = list(vcd_files.words_of(reads))
     yield "a long word", [len(word) for word in words] == [200 * vcd_files.CHUNK, 1] and reads.read.call_count < 20
+    begun = time.process_time()
+    found = vcd_files.matcher("*a" * 3 + "*b")(b"a" * 500)
+    yield "many stars", found is None and time.process_time() < begun + 1
 
 
 def dialect():
@@ -168,7 +179,7 @@ def dialect():
 
 def check():
     for part in starts, without_memory, on_a_terminal, not_built, long_ones, dialect:
-        yield from part()
+        yield from () if IS_UNPROVED and part == without_memory else part()
     for text, wanted in LOST:
         losses = vcd_files.losses_of(vcd_files.words_of(io.BytesIO(text)), {b"!": "a", b'"': "b"})
         found = {kind.rstrip("s"): int(count) for count, kind, *_ in (what.split(" ") for what, _ in losses)}

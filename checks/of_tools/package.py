@@ -3,7 +3,7 @@
 import os
 import re
 
-from common import TOP, lay_out, module_of, run, store, text_at, tools_missing
+from common import SKIPPED, TOP, lay_out, module_of, run, store, text_at, tools_missing
 
 # Half a second is not enough on a busy machine, so that a check of names waits longer.
 COMPLETE = """source <(sed 's/timeout 0.5/timeout 20/' "$1"); shift
@@ -65,7 +65,7 @@ def packs(folder):
     """A package has all that is installed, and wants the C library."""
     absent = tools_missing({"dpkg-shlibdeps": "dpkg-dev"})
     if absent:
-        print("package: `make deb` is not tested: %s" % absent[0])
+        yield "make deb: " + absent[0], SKIPPED
         return
     status, path, errors = run(["make", "-s", "deb", "MAINTAINER=A <a@b.c>"], cwd=folder)
     held = run(["dpkg-deb", "--contents", path.strip()], cwd=folder)[1].splitlines()

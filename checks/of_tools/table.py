@@ -60,7 +60,7 @@ TOLD = [
     ([I2C, "i2c bench.scl bench.sd"], 1, "bench.sd: NoSuchName\n    bench.sd: near names are bench.sda"),
     ([I2C, *I2C_LINE.split()], 1, "\n    quote each line: vcdedit-table CAPTURE"),
     ([I2C, I2C_LINE, "--csv", "--json"], 2, "not allowed with"), ([I2C, I2C_LINE, "--script", "c"], 2, "or words"),
-    (["c", "list"], 3, "c: line 1: frob: UnexpectedWord"),
+    (["c", "list"], 3, "c: line 1: frob: UnexpectedWord"), (["--", "-c", "list"], 3, ": -c: line 1: frob: Unex"),
     *((words, 4, "vcdedit-table: none: No such file") for words in (["none", "list"], ["c", "--script", "none"])),
 ]
 
@@ -107,7 +107,7 @@ def check():
     for tick, timescale, wanted in TIMES:
         found = tool.microseconds(tick, timescale)
         yield "%d at %s: %s us" % (tick, timescale, found), found == wanted
-    store("c", text="frob\n")
+    os.link(store("c", text="frob\n"), "-c")
     for words, status, told in TOLD:
         found = table(*words)
         right = found[0] == status and (status == 0 or found[1] == "") and told in found[2]

@@ -7,7 +7,7 @@ import signal
 import sys
 import unittest.mock
 
-from common import EXAMPLES, TOP, load, load_if_there, module_of, run, store, store_program, tools_missing
+from common import EXAMPLES, SKIPPED, TOP, load, load_if_there, module_of, run, store, store_program, tools_missing
 
 TOOL = os.path.join(TOP, "tools/vcdedit-view")
 I2C, I2C_LINE = os.path.join(EXAMPLES, "i2c/capture.vcd"), "i2c bench.scl bench.sda"
@@ -91,7 +91,8 @@ REFUSED = [
     ([I2C, "--script", "s.vcd", "-o", "./s.vcd"], 2, "./s.vcd" + TWICE),
     (["c.vcd", "-o", "k.vcd", "--picture", "p.png"], 2, "k.gtkw" + TWICE),
     ([I2C, "--size", "50"], 2, "--size is a width"), ([I2C, "-o", "none/v.vcd"], 2, "there is no such folder"),
-    ([I2C, "--picture", "p.jpg"], 2, "--picture: p.jpg does not end in .png"),
+    ([I2C, "--picture", "p.jpg"], 2, "--picture: p.jpg is no name that ends in .png"),
+    ([I2C, "-o", ".vcd"], 2, "-o: .vcd is no name that ends in .vcd"),
     ([I2C], 4, "there is no gtkwave and no surfer: apt-get install gtkwave, or say in VCDEDIT_VIEWER"),
     ([I2C, "--picture", "p.png"], 4, "needs GTKWave and a virtual screen: apt-get install gtkwave xvfb xauth\n"),
 ]
@@ -119,7 +120,7 @@ def rows():
     """Rows. vcdedit reads the written file again, and finds the capture after the lines. FST keeps the rows."""
     absent = tools_missing({"vcd2fst": "gtkwave"})
     if absent:
-        print("view: the way through FST is not tested: %s" % absent[0])
+        yield "the way through FST: " + absent[0], SKIPPED
     for name, (capture, lines, told, wanted) in ROWS.items():
         store("c.vcd", text=capture)
         store("script", text="\n".join(lines))
@@ -181,6 +182,12 @@ def settings():
         tool.copy_whole(TOOL, old)
     left = [name for name in os.listdir() if "vcdedit-view" in name]
     yield "a copy that fails: %s, %s" % (load(old), left), (load(old), left) == (b"old", [])
+    os.chmod(old, 0o600)
+    os.chown(old, *[1, 1] if os.getuid() == 0 else [-1, -1])
+    before = os.stat(old)
+    tool.copy_whole(TOOL, old)
+    kept = [getattr(os.stat(old), name) == getattr(before, name) for name in ("st_mode", "st_uid", "st_gid", "st_size")]
+    yield "mode and owner of a file that is replaced: %s" % kept, kept == [True, True, True, False]
 
 
 def programs():

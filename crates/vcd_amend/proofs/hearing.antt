@@ -1,3 +1,0 @@
--- Lemmas of `hearing`.
-pub mod PartWaves
-pub mod HollowParts

@@ -1,4 +1,0 @@
--- Lemmas of `laws`.
-pub mod AmendedRuns
-pub mod EditedFiles
-pub mod NamedVariables

@@ -1,9 +1,0 @@
--- Lemmas: a file amended by a script.
-pub mod CutsInForce
-pub mod KnownRun
-pub mod AmendedRun
-pub mod PlannedRun
-pub mod CarriedOut
-pub mod EndsOfRun
-pub mod RemarkedRun
-pub mod MarkedRun

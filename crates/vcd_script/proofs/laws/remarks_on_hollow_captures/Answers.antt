@@ -1,8 +1,0 @@
-use Rattle.vcd_script.proofs.shared.RemarksOnHollow.{remarks_with_others, remarks_on_hollow}
-use Rattle.vcd_script.proofs.laws.remarks_on_hollow_captures.Goals as goal
-
-pub returns-clause-command : goal.returns-clause-command
-returns-clause-command c = remarks_with_others
-
-pub returns-clause-run : goal.returns-clause-run
-returns-clause-run c = remarks_on_hollow

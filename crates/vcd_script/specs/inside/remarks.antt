@@ -1,2 +1,0 @@
--- Definitions that `remarks` and its proofs cite.
-pub mod Parts

@@ -1,2 +1,0 @@
--- Lemmas of `copying`.
-pub mod Ends

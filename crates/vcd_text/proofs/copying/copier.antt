@@ -1,3 +1,0 @@
--- Lemmas of `copying/copier`.
-pub mod CopiedChunks
-pub mod Told

@@ -1,7 +1,0 @@
--- Lemmas of `copying/pieces`.
-pub mod EndedItems
-pub mod OneWordMore
-pub mod CopiedWords
-pub mod SpacedWords
-pub mod StandingBytes
-pub mod WordsInChunk

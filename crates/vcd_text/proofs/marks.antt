@@ -1,5 +1,0 @@
--- Lemmas: marks.
-pub mod MarkBytes
-pub mod MarkWords
-pub mod MarkedFiles
-pub mod MarkedCopies

@@ -1,2 +1,0 @@
--- Lemmas of `summed`.
-pub mod EightBytes
