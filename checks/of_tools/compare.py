@@ -7,7 +7,6 @@ import math
 import os
 import random
 import re
-import tempfile
 
 from common import TOP, load, module_of, run, store, store_program
 from random_captures import Capture, Chance
@@ -157,7 +156,7 @@ def command_lines():
         ("A A --frob", 2, "error: unrecognized arguments: --frob"),
         ("A none", 2, "none: No such file or directory"),
         ("A A > /dev/full", 4, "standard output: No space left on device"),
-        ('ulimit -f 1; "$0" - A < A', 2, "- or its copy in %s: File too large" % tempfile.gettempdir()),
+        ('ulimit -f 1; "$0" - A < A', 2, "- or its copy in %s: File too large" % os.environ["TMPDIR"]),
         ('VCDEDIT_AMEND=/bin/true "$0" A A', 2, "A: /bin/true is no vcdedit"),
         ('VCDEDIT_AMEND=./none_listed "$0" A A', 2, "A: its variables are not those that vcdedit lists"),
     ):
