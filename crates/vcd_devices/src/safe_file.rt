@@ -67,7 +67,8 @@ impl<'a, R: Runtime<File = File> + AllocGlobal> SafeFile<'a, R> {
         self.is_beside
     }
 
-    /// Puts the file in the place of its target. If that fails, the target is as it was.
+    /// Puts the file in the place of its target. If that fails, a target that it is beside is as it
+    /// was.
     pub fn commit(self) -> Result<(), OutputFault>
         requires { ⟦<SafeFile<'a, R> as Sink>⟧.is_flushed self ≡ true }
     {

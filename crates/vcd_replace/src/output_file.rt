@@ -65,7 +65,8 @@ impl<'a, R: Files<File = File> + AllocGlobal> OutputFile<'a, R> {
     /// Puts the file in the place of its target.
     ///
     /// It is first written to the disk, and then the capture is looked at for the last time. If one
-    /// of these fails, the file is removed and the target is as it was.
+    /// of these fails, the file is removed and the target is as it was. A target that is written as
+    /// it is has all bytes by then, and only the capture is looked at.
     pub fn put_in_place(self) -> Result<(), ReplaceError> {
         let OutputFile {
             files,

@@ -4,7 +4,8 @@ use std::alloc::AllocError;
 use std::io;
 use std::path::PathBuf;
 
-/// Why an output can't be begun, or not be put in its place. Its target is as it was.
+/// Why an output can't be begun, or not be put in its place. Its target is as it was, unless it is
+/// written as it is: then it has the bytes that were written.
 #[derive(Drop)]
 pub enum ReplaceError {
     /// There is a file, and it may not be written.
