@@ -95,6 +95,11 @@ def run(words, text=True, timeout=SECONDS, **how):
     return done.returncode, done.stdout, done.stderr
 
 
+def same(name, found, wanted):
+    """The outcome of a check that finds what it wants, with its name."""
+    return "%s: %s" % (name, found), found == wanted
+
+
 def tools_missing(packages):
     """A line for each tool that is not on this machine. Each has the packages of Debian that it wants."""
     absent = [tool for tool in packages if shutil.which(tool) is None]

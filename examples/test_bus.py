@@ -8,8 +8,9 @@ TABLE = ["vcdedit-table", "--json", "examples/i2c/capture.vcd", "i2c bench.scl b
 
 
 def test_register_is_read():
-    write, read = json.loads(subprocess.run(TABLE, check=True, stdout=subprocess.PIPE).stdout)
+    (line,) = json.loads(subprocess.run(TABLE, check=True, stdout=subprocess.PIPE).stdout)
+    write, read = line["rows"]
     assert (write["address"], write["direction"], write["data"]) == ("0x50", "write", ["0x2a"])
     assert (read["address"], read["acknowledges"], read["end"]) == ("0x50", ["ack", "nack"], "stop")
     assert Fraction(read["last_us"]) - Fraction(write["first_us"]) < 400
-    assert not write["remarks"]
+    assert not line["remarks"]

@@ -50,4 +50,45 @@ fi
 
 # Large pages, where the C library knows them (glibc 2.35): a large capture takes up to a third less time.
 export GLIBC_TUNABLES="${GLIBC_TUNABLES-glibc.malloc.hugetlb=1}"
+
+# The folder in which vcdedit-amend writes the output that these words name: beside it, or beside what it leads to.
+folder_of_output() { # WORD..
+    before='' output=''
+    for word; do
+        case $before=$word in
+            -o=* | --output-file=*) output=$word ;;
+            *=--output-file=*) output=${word#*=} ;;
+            *=-o?*) output=${word#-o} ;;
+        esac
+        before=$word
+    done
+    [ -n "$output" ] && output=$(readlink -f -- "$output") && echo "${output%/*}/.${output##*/}.vcdedit"
+}
+
+# Runs the program to its end, also where that is a signal, and ends with its status. The program has a lock on the
+# folder while it runs, so a folder that nobody has locked then is left over, and is removed. What was standard input
+# is 9: a shell has none for what it runs beside itself.
+run_with_output() { # FOLDER WORD..
+    folder=$1
+    shift
+    "$program" "$@" <&9 9<&- &
+    trap 'kill "$!"' HUP INT TERM
+    status=0
+    wait "$!" 2> /dev/null || status=$?
+    while kill -0 "$!" 2> /dev/null; do
+        wait "$!" 2> /dev/null || status=$?
+    done
+    if [ "$status" -gt 128 ] && [ -d "$folder" ]; then
+        flock -n "$folder" rm -rf "$folder" 2> /dev/null
+    fi
+    exit "$status"
+}
+
+case $program in
+    *vcdedit?amend)
+        if folder=$(folder_of_output "$@") && (: 9<&0) 2> /dev/null && ! (: <&9) 2> /dev/null; then
+            run_with_output "$folder" "$@" 9<&0
+        fi
+        ;;
+esac
 exec "$program" "$@"

@@ -2,7 +2,6 @@
 
 import collections
 import os
-import pathlib
 import re
 
 import vcd_files
@@ -10,8 +9,8 @@ import vcd_runs
 from vcd_files import Trouble, shown
 from vcd_messages import told_refusals
 
-OPERANDS = ["CAPTURE LINE..", "--script SCRIPT CAPTURE"]
-DECODERS, CHANGING = {b"uart", b"spi", b"i2c"}, {*vcd_runs.EDITS, b"undo", b"redo"}
+OPERANDS = "CAPTURE LINE.."
+CHANGING = {*vcd_runs.EDITS, b"undo", b"redo"}
 # Remarks on variables that differ, and on the capture. Others on the output speak of a file that is not written here.
 TOLD = re.compile("^(?:output: variables of one code|%s) .*" % vcd_runs.OF_CAPTURE, re.M)
 # Words that are hardly meant as the ticks of a bit.
@@ -29,48 +28,42 @@ def options_of(parser, words):
     add = parser.add_argument
     told = "the capture, which stays as it is, or - for standard input; lines of a script, as 'i2c bench.scl bench.sda'"
     add("words", metavar="CAPTURE LINE", nargs="*", help=told)
-    add("--script", metavar="SCRIPT", help="a file with the lines")
+    add("-q", "--quiet", action="store_true", help="write no remarks to standard error")
+    add("--script", metavar="SCRIPT", help="a file with lines before these, or - for standard input")
     # Python parses words behind `--` only if no options may stand between the others.
     place = words.index("--") if "--" in words else len(words)
     options = parser.parse_intermixed_args(words[:place])
-    options.capture, *options.lines = [*options.words, *words[place + 1 :]] or parser.error("there is no CAPTURE")
-    if options.script is not None and options.lines:
-        parser.error("the lines are those of --script, or words")
-    text = os.fsencode("\n".join(options.lines))
-    options.lines = (text if options.script is None else pathlib.Path(options.script).read_bytes()).split(b"\n")
+    options.capture, *lines = [*options.words, *words[place + 1 :]] or parser.error("there is no CAPTURE")
+    if options.capture == options.script == "-":
+        parser.error("standard input is the capture or the script")
+    script = [] if options.script is None else [vcd_files.script_at(options.script).removesuffix(b"\n")]
+    options.lines = b"\n".join([*script, *map(os.fsencode, lines)]).split(b"\n")
     return options
 
 
 def outcome_of(tool, options, source):
-    """What the lines of the options make of a capture. Remarks on them are told, and a refused line ends the tool. What
-    was decoded above an edit is decoded again behind the lines."""
+    """What lines make of a capture, with remarks told. What was decoded above an edit is decoded again behind them."""
     lines, commands = options.lines, list(map(vcd_runs.command_of, options.lines))
     edits = [number for number, command in enumerate(commands, 1) if command in CHANGING]
-    again = [line for line in dict.fromkeys(lines[: max(edits, default=0)]) if vcd_runs.command_of(line) in DECODERS]
-    first, replies, remarks, others = answers(tool, source, [*lines, b"list", *again])
-    want_no_refusal(tool, lines, replies, first, source)
-    decoded, at_end = [], dict(zip(again, replies[len(lines) + 1 :]))
+    above = dict.fromkeys(lines[: max(edits, default=0)])
+    again = [line for line in above if vcd_runs.command_of(line) in vcd_runs.DECODERS]
+    first, replies, remarks, others = answers(source, [*lines, b"list", *again])
+    want_no_refusal(tool, lines, replies, first)
+    decoded, at_end, told = [], dict(zip(again, replies[len(lines) + 1 :])), []
     for number, (line, command, said, remarked) in enumerate(zip(lines, commands, replies, remarks), 1):
-        for text in remarked + told_rate(line, said, first.timescale):
-            vcd_files.tell(tool, "line %d: %s" % (number, text))
-        if command in DECODERS:
+        told += ["line %d: %s" % (number, text) for text in remarked + told_rate(line, said, first.timescale)]
+        if command in vcd_runs.DECODERS:
             annotations, is_edited = list(map(annotation_of, said)), at_end.get(line, said) != said
             decoded.append(Decoded(number, line, shown(command), annotations, remarked, is_edited))
-    for text in others:
+    for text in [] if options.quiet else told + others:
         vcd_files.tell(tool, text)
     return Outcome(edits, first, vcd_runs.listing_of(replies[len(lines)]), decoded)
 
 
-def answers(tool, source, asked):
-    """What a capture holds before some lines, of each its replies and the remarks on it, and others.
-    Where there is no vcdedit-amend, vcdedit answers, such as ./first-look, and makes no remarks."""
-    name, replies, remarks = "vcdedit-amend", [[] for _ in asked], [[] for _ in asked]
-    try:
-        vcd_files.program(name)
-    except Trouble as trouble:
-        vcd_files.tell(tool, "no remarks on lines: " + trouble.lines[0])
-        name = "vcdedit"
-    with vcd_runs.Run(source, asked, name=name) as run:
+def answers(source, asked):
+    """What a capture holds before some lines, of each its replies and the remarks on it, and others."""
+    replies, remarks = [[] for _ in asked], [[] for _ in asked]
+    with vcd_runs.Run(source, asked) as run:
         first = run.listing()
         for place, reply in run.replies():
             replies[place].append(reply)
@@ -79,11 +72,10 @@ def answers(tool, source, asked):
         return first, replies, remarks, TOLD.findall(run.told())
 
 
-def want_no_refusal(tool, lines, replies, listing, source):
+def want_no_refusal(tool, lines, replies, listing):
     """Ends if a line is refused, with what that means."""
     found = [(number, vcd_runs.refusal_of(b"".join(said))) for number, said in enumerate(replies[: len(lines)], 1)]
-    run = lambda words, **how: vcd_runs.Run(source, None, words, "vcdedit-amend", **how)
-    told = told_refusals([(number, name) for number, name in found if name], lines, listing, run)
+    told = told_refusals([(number, name) for number, name in found if name], lines, listing)
     if told and lines[1:] and not any(b" " in line for line in lines):
         told.append("quote each line: %s CAPTURE 'uart top.rx 100 8 none 1'" % tool)
     if told:

@@ -27,6 +27,7 @@ import argparse
 import collections
 import contextlib
 import errno
+import fnmatch
 import fractions
 import io
 import itertools
@@ -53,10 +54,8 @@ LINES_SHOWN = 10
 # What a file is that is no plain VCD, and what to do, by its first bytes.
 OTHER_FILES = [
     (rb"\Z", "is empty", "look whether the tool that wrote it ended well"),
-    (rb"\x1f\x8b", "is packed by gzip", "unpack it: gzip -dc FILE > NEW.vcd"),
-    (rb"BZh", "is packed by bzip2", "unpack it: bzip2 -dc FILE > NEW.vcd"),
-    (rb"\xfd7zXZ", "is packed by xz", "unpack it: xz -dc FILE > NEW.vcd"),
-    (rb"\x28\xb5\x2f\xfd", "is packed by zstd", "unpack it: zstd -dc FILE > NEW.vcd"),
+    *((beginning, "is packed by " + name, "unpack it: %s -dc FILE > NEW.vcd" % name) for beginning, name in [
+        (rb"\x1f\x8b", "gzip"), (rb"BZh", "bzip2"), (rb"\xfd7zXZ", "xz"), (rb"\x28\xb5\x2f\xfd", "zstd")]),
     (rb"PK\x03\x04", "is a zip file", "unpack it: unzip FILE"),
     (rb"\xef\xbb\xbf", "begins with a byte order mark", r"remove it: sed '1s/^\xef\xbb\xbf//' FILE > NEW"),
     (rb"\xff\xfe|\xfe\xff|[^\x00]\x00[^\x00]\x00|\x00[^\x00]\x00[^\x00]", "is UTF-16",
@@ -139,6 +138,12 @@ def state_of(path):
         return found.st_dev, found.st_ino, found.st_size, found.st_mtime_ns
 
 
+def want_state(place, state):
+    """Ends where another program has changed what is at a place since this state of it."""
+    if state_of(place) != state:
+        raise Trouble("another program writes it: run again when that has ended")
+
+
 def is_protected(path):
     """Whether a file is there and write-protected: to the superuser, too, by its mode."""
     return os.path.exists(path) and not (os.access(path, os.W_OK) and os.stat(path).st_mode & 0o222)
@@ -194,8 +199,7 @@ def variables_in(words, listing):
 
 
 def changes_in(words):
-    """(tick, code, value) of each change: the value in as few letters as the program writes it, or none of a real
-    number or a string. A comment is a change without a code. Declarations are passed over."""
+    """(tick, code, value) of each change, the value in the fewest letters, or none of a real; no code of a comment."""
     tick = 0
     for word in words:
         first = word[0]
@@ -215,8 +219,7 @@ def changes_in(words):
 
 
 def losses_of(words, names):
-    """(what, lines about variables) of what vcdedit leaves out behind the declarations: comments, and of the variables
-    with these names by their codes real and string changes, and changes that a later one of the same tick replaces."""
+    """(what, lines about variables) of the comments and changes that vcdedit leaves out, by the names of codes."""
     reals, replaced, comments, seen = collections.Counter(), collections.Counter(), 0, {}
     for tick, code, value in changes_in(words):
         if code is None:
@@ -236,8 +239,7 @@ def losses_of(words, names):
 
 
 def ticks_in(words, numbers):
-    """(tick, {number: value}) of what changes at each tick with a change, by the numbers of each code. At the first all
-    have a value."""
+    """(tick, {number: value}) of what changes at each tick, by the numbers of codes. At the first all have a value."""
     tick, found, values = 0, dict.fromkeys(numbers, b"x"), {}
     for after, code, value in itertools.chain(changes_in(words), [(None, None, None)]):
         if after != tick and found:
@@ -279,15 +281,18 @@ def ticks_of(time, timescale):
 
 def matcher(pattern):
     """A test of full names by a pattern: `*` stands for any bytes, `?` for any one, and all else for itself."""
-    first, *rest = re.escape(os.fsencode(pattern)).replace(rb"\?", b".").split(rb"\*")
-    # What is between two stars is sought once: of a group in a look-ahead no other place is tried.
-    between = (b"(?=(?P<p%d>.*?%s))(?P=p%d)" % (place, part, place) for place, part in enumerate(rest[:-1]))
-    return re.compile(b"".join([first, *between, *(b".*" + part for part in rest[-1:])]), re.DOTALL).fullmatch
+    return re.compile(os.fsencode(fnmatch.translate(shown(pattern).replace("[", "[[]")))).match
 
 
 def what_else(prefix):
     """(what a file is, what to do) where its first bytes show that it is no plain VCD; else None."""
     return next((others for beginning, *others in OTHER_FILES if re.match(beginning, prefix)), None)
+
+
+def script_at(path):
+    """The bytes of a script, or of standard input."""
+    with sys.stdin.buffer if path == "-" else open(path, "rb") as file:
+        return file.read()
 
 
 def opened(path):
@@ -321,9 +326,9 @@ def window_of(options, timescale, end, what):
     return first, last
 
 
-def parser_of(name, text, *operands):
+def parser_of(name, text, operands):
     """A parser with the options that each tool has, and what stands behind these."""
-    usage = "\n       ".join("%s [OPTION..] %s" % (name, words) for words in operands)
+    usage = "%s [OPTION..] %s" % (name, operands)
     more = "`man %s` says more of each option, and explains the statuses." % name
     parser = argparse.ArgumentParser(name, usage, text, more, allow_abbrev=False)
     # A wrong word is shown as a name is.
@@ -353,15 +358,12 @@ def end(name, main, status_of_trouble=None):
             status = main(sys.argv[1:])
         except SystemExit as ended:
             status = ended.code
-        except (Trouble, MemoryError) as error:
-            trouble = trouble_of(error)
-            tell(name, *trouble.lines)
-            status = trouble.status if trouble.status == 5 else status_of_trouble or trouble.status
         sys.stdout.flush()
-    except OSError as error:
-        os.dup2(os.open(os.devnull, os.O_WRONLY), 1)
-        error.filename = error.filename or "standard output"
+    except (OSError, Trouble, MemoryError) as error:
+        if isinstance(error, OSError):
+            os.dup2(os.open(os.devnull, os.O_WRONLY), 1)
+            error.filename, status_of_trouble = error.filename or "standard output", None
         trouble = trouble_of(error)
         tell(name, *trouble.lines)
-        status = trouble.status
+        status = trouble.status if trouble.status == 5 else status_of_trouble or trouble.status
     sys.exit(status)

@@ -11,9 +11,8 @@ import subprocess
 import vcd_files
 from vcd_files import program, shortened, shown
 
-# Letters of a line that are shown, near names that are, and how often a report seeks those in the capture. Each time
-# all declarations are read twice, and so many bytes at most of what is found.
-LONGEST, NAMES_SHOWN, SOUGHT, READ = 100, 3, 2, 1 << 16
+# Letters of a line that are shown, near names that are, and among how many they are sought by their spelling.
+LONGEST, NAMES_SHOWN, SOUGHT = 100, 3, 10000
 
 # A fault or a refusal, what it means, what to do, and what the line of a fault is that of.
 Message = collections.namedtuple("Message", "kind name means remedy line")
@@ -28,8 +27,7 @@ MEANINGS = {(one.kind, one.name): ("%s\n    %s" % (one.means, one.remedy)).repla
 
 # What other lines on standard error mean.
 ENDINGS = {
-    "output: write fault": [
-        "the new capture can't be written: is the disk full, or does a sticky folder protect the old one?"],
+    "output: write fault": ["the new capture can't be written: is the disk full, or the old one in a sticky folder?"],
     "out of memory": ["out of memory", MEANINGS["fault", "NoMemory"]],
 }
 
@@ -90,15 +88,12 @@ def name_of(word, names):
     return names[int(position[1])] if position and int(position[1]) < len(names) else word
 
 
-def told_refusals(refused, lines, listing, run):
-    """Lines about the refused lines of a script, by number and refusal, for a capture with this listing. `run` gives a
-    run of vcdedit-amend on it, without a script, by more options."""
-    names, runs = [signal.name for signal in listing.signals], iter([run] * SOUGHT)
-    near = functools.lru_cache(None)(lambda word: near_names(word, names, runs))
-    return shortened(refused, lambda one: told_refusal(*one, lines[one[0] - 1], names, listing.timescale, near))
+def told_refusals(refused, lines, listing):
+    """Lines about the refused lines of a script, by number and refusal, for a capture with this listing."""
+    return shortened(refused, lambda one: told_refusal(*one, lines[one[0] - 1], listing))
 
 
-def told_refusal(number, name, line, names, timescale, near):
+def told_refusal(number, name, line, listing):
     told, command = ["line %d: %s: %s" % (number, short(line), name)], shown(line.split()[0])
     meaning = [MEANINGS.get(("refusal", name), "")]
     if name == "UnknownCommand":
@@ -110,8 +105,9 @@ def told_refusal(number, name, line, names, timescale, near):
         told.append("usage: %s (%s)" % usages()[command])
     if name in NUMBERS:
         words = [word for word in map(shown, line.split()) if re.fullmatch(NUMBERS[name], word)]
-        told += [told_number(word, timescale) for word in words]
-    return told + (name == "NoSuchName" and told_names(signals_in(line), names, near) or meaning)
+        told += [told_number(word, listing.timescale) for word in words]
+    names = [signal.name for signal in listing.signals]
+    return told + (name == "NoSuchName" and told_names(signals_in(line), names) or meaning)
 
 
 def told_number(word, timescale):
@@ -124,30 +120,24 @@ def told_number(word, timescale):
         return trouble.lines[0]
 
 
-def told_names(words, names, near):
+def told_names(words, names):
     """Lines about the names that a capture has not, or else about those that it had before the lines above."""
     told, unknown = [], [word for word in words if name_of(word, names) not in names]
     for word in unknown:
         if re.fullmatch(rb"@[0-9]+", word):
             told.append("%s: the capture has %d signals, the first is @0" % (shown(word), len(names)))
-        elif found := near(word):
+        elif found := near_names(word, names):
             told.append("%s: near names are %s" % (shown(word), ", ".join(found)))
     if not unknown:
         told = ["%s is in the capture: was it renamed or removed by a line above?" % shown(word) for word in words]
     return told
 
 
-def near_names(word, names, runs):
-    """Names that are near to a word, as vcdedit-amend finds them in the next run, or else have its last part within."""
-    # No name meets the empty pattern, so the run ends behind the declarations. It may lack the program, be interrupted,
-    # or not take the word, which may be too long or have a byte 0.
-    try:
-        with next(runs)([b"--keep=" + word, "--keep="], stdout=subprocess.DEVNULL) as run:
-            run.child.wait()
-            told = run.told(READ)
-    except (StopIteration, vcd_files.Trouble, OSError, ValueError):
-        told = ""
-    patterns, last = re.findall("^  near: (.*)\n", told, re.M), word.rpartition(b".")[2].strip(b"*?").lower()
-    near = [name for pattern in patterns for name in filter(vcd_files.matcher(pattern), names)]
-    near = near or [name for name in names if last in name.lower() and len(last) > 1]
-    return [shown(name) for name in dict.fromkeys(near)][:NAMES_SHOWN]
+def near_names(word, names):
+    """Names whose last part is spelled like that of a word, or of very many is the same, the nearest first."""
+    last_of = lambda text: text.lower().rpartition(".")[2].partition("[")[0]
+    found, last = {}, last_of(shown(word))
+    for name in map(shown, names):
+        found.setdefault(last_of(name), []).append(name)
+    near = difflib.get_close_matches(last, found if len(found) < SOUGHT else found.keys() & {last}, NAMES_SHOWN)
+    return difflib.get_close_matches(shown(word), sum(map(found.get, near), []), NAMES_SHOWN, 0)

@@ -16,16 +16,16 @@ from vcd_files import NO_ROOM, Trouble, program, shown
 INTERRUPTIONS = [signal.Signals["SIG" + name] for name in "INT TERM HUP QUIT ALRM USR1 USR2 XCPU".split()]
 # The commands of a script that edit.
 EDITS = b"rename remove invert shift cut deglitch force derive".split()
-# Commands with one reply, but `changes`, whose replies go on while later ticks follow. Other lines have another number;
-# the line that is refused behind each ends its replies.
-ENDED, LATER = {*EDITS, *b"undo redo depth value changes".split()}, re.compile(rb"[1-9][0-9]* \S+\n").fullmatch
-LAST = b"\n-"
+# Lines without words and comments have no reply, others one, `changes` more while later ticks follow, and those that
+# decode any number, so a listing comes behind them, which begins with HEAD.
+DECODERS, HEAD, LATER = {b"uart", b"spi", b"i2c"}, b"timescale ", re.compile(rb"[1-9][0-9]* \S+\n").fullmatch
 # Remarks of vcdedit-amend on a line, by its number, and on its output and the capture, on standard error.
 REMARK, OF_CAPTURE = re.compile(r"^line (\d+): (.*)\n", re.M), "capture: the last line"
 FILE_REMARK = re.compile("^(?:output:|%s) .*" % OF_CAPTURE, re.M)
-# Lines there that are no error: remarks, what vcdedit-amend says of memory while it reads, and first-look of its build.
+# Lines there that are no error: remarks, what replies show too, and what is said of memory and by first-look.
 NO_ERROR = re.compile(
-    r"^(?:line \d+:|output:|%s|vcdedit-amend: memory may run out:|first-look(?:-amend)?:) .*\n" % OF_CAPTURE, re.M)
+    r"^(?:line \d+:|output:|%s|vcdedit-amend: (?:memory may run out|LineRefused):|first-look(?:-amend)?:) .*\n"
+    % OF_CAPTURE, re.M)
 # What a run begins with so that it ends with the tool, even if that is killed.
 GUARD = ["setpriv", "--pdeathsig", "TERM"] if shutil.which("setpriv") else []
 
@@ -41,11 +41,16 @@ def on_interruption(act):
             signal.signal(number, act)
 
 
+def listed(lines):
+    """The lines of the listing that some lines begin with, of which no more are taken."""
+    head = list(itertools.islice(lines, 4))
+    return [*head, *itertools.islice(lines, int(head[2].split()[1]))] if head[2:] else head
+
+
 def listing_of(lines):
-    """The listing that some lines begin with, of which no more are taken."""
-    lines = iter(lines)
-    head = dict(line.rstrip(b"\n").split(b" ", 1) for line in itertools.islice(lines, 4))
-    rows = [line.rstrip(b"\n").split(b" ", 3) for line in itertools.islice(lines, int(head[b"signals"]))]
+    """What the lines of a listing say."""
+    head = dict(line.rstrip(b"\n").split(b" ", 1) for line in lines[:4])
+    rows = [line.rstrip(b"\n").split(b" ", 3) for line in lines[4:]]
     signals = [Signal(int(width), kind, name) for _, width, kind, name in rows]
     return Listing(shown(head[b"timescale"]), int(head[b"end"]), int(head[b"skipped"]), signals)
 
@@ -53,12 +58,11 @@ def listing_of(lines):
 class Run:
     """A run of a program on a capture that is open for bytes. It lists, and then answers lines of a script."""
 
-    def __init__(self, source, lines=(), words=(), name="vcdedit", path="/dev/stdin", **how):
-        """`words` are more options. The program opens the capture by a path, so that it can read it more than once. If
-        `lines` are None, it has no script."""
+    def __init__(self, source, lines=(), words=(), name="vcdedit-amend", path="/dev/stdin", **how):
+        """`words` are more options. The program opens the capture by a path. If `lines` are None, it has no script."""
         self.source, self.lines, self.program = source, lines, program(name)
         # The numbers of the lines in the script below.
-        texts = [line + LAST * (command_of(line) not in ENDED) + b"\n" for line in lines or ()]
+        texts = [line + b"\nlist" * (command_of(line) in DECODERS) + b"\n" for line in lines or ()]
         self.numbers = list(itertools.accumulate((text.count(b"\n") for text in texts), initial=2))
         with open(os.memfd_create("script"), "wb") as script:
             script.write(b"list\n" + b"".join(texts))
@@ -75,15 +79,15 @@ class Run:
         return self
 
     def __exit__(self, *_):
-        self.child.kill()
+        self.child.terminate()
         self.child.communicate()
         self.errors.close()
 
     def listing(self):
         """What the program lists of the capture first."""
         try:
-            return listing_of(self.child.stdout)
-        except (KeyError, ValueError):
+            return listing_of(listed(self.child.stdout))
+        except (KeyError, ValueError, IndexError):
             self.want_end()
             raise Trouble("%s is no vcdedit" % self.program) from None
 
@@ -91,20 +95,24 @@ class Run:
         """(place of a line, reply) of each reply to the lines."""
         ahead = []
         replies = iter(lambda: ahead.pop() if ahead else self.child.stdout.readline(), b"")
-        for place, line in enumerate(self.lines):
-            last = b"line %d: refused: UnknownCommand\n" % (self.numbers[place] + 1)
-            said, command = itertools.takewhile(last.__ne__, replies), command_of(line)
-            if command in ENDED:
-                later = itertools.takewhile(lambda one: LATER(one) or ahead.append(one), replies)
-                said = itertools.chain(itertools.islice(replies, 1), later if command == b"changes" else ())
-            for reply in said:
-                yield place, reply[:-1]
+        while_is = lambda test: itertools.takewhile(lambda one: test(one) or ahead.append(one), replies)
+        for place, command in enumerate(map(command_of, self.lines)):
+            said = itertools.islice(replies, int(command[:1] not in (b"", b"#")))
+            if command == b"changes":
+                said = itertools.chain(said, while_is(LATER))
+            elif command == b"list" and (one := list(said)):
+                said = listed(itertools.chain(one, replies)) if one[0].startswith(HEAD) else one
+            elif command in DECODERS:
+                said = while_is(lambda one: not one.startswith(HEAD))
+            yield from ((place, reply[:-1]) for reply in said)
+            if command in DECODERS:
+                listed(replies)
         self.want_end()
 
-    def told(self, most=-1):
-        """What the program has written to standard error, of which at most so many bytes."""
+    def told(self):
+        """What the program has written to standard error."""
         self.errors.seek(0)
-        return self.errors.read(most).decode("utf-8", "replace")
+        return self.errors.read().decode("utf-8", "replace")
 
     def remarks(self):
         """(place of a line, remark) of each remark that the program has made on the lines."""
@@ -114,15 +122,16 @@ class Run:
     def want_end(self):
         """Waits for the run's end, and raises what went wrong. A line that is refused is nothing wrong."""
         status = self.child.wait()
-        errors = NO_ERROR.sub("", self.told())
-        if -status in INTERRUPTIONS:
-            raise Trouble("interrupted", status=128 - status)
-        if status == -signal.SIGXFSZ:
+        # The script that starts the program ends with 128 and the signal.
+        number, errors = -status if status < 0 else status - 128, NO_ERROR.sub("", self.told())
+        if number in INTERRUPTIONS:
+            raise Trouble("interrupted", status=128 + number)
+        if number == signal.SIGXFSZ:
             raise Trouble("the new capture is larger than a file may be (ulimit -f)")
         if status > 5 and any(text in errors for text in NO_ROOM):
             raise Trouble("out of memory", status=5)
-        if status < 0:
-            raise Trouble("the run was ended by signal %d; without memory the system does that" % -status, status=5)
+        if number > 0:
+            raise Trouble("the run was ended by signal %d; without memory the system does that" % number, status=5)
         if status > 1 or status and errors:
             raise Trouble(*vcd_messages.told_end(errors, self.source), status=status)
 

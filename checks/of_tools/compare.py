@@ -8,7 +8,7 @@ import os
 import random
 import re
 
-from common import TOP, load, module_of, run, store, store_program
+from common import IS_UNPROVED, TOP, load, module_of, run, same, store, store_program
 from random_captures import Capture, Chance
 
 TOOL = os.path.join(TOP, "tools/vcdedit-compare")
@@ -29,6 +29,7 @@ $var event 1 ' g $end $scope module t $end $var wire 1 ( a $end $enddefinitions 
 NONE_LISTED = "#!/bin/sh\nprintf 'timescale none\nend 9\nsignals 0\nskipped 0\n'\n"
 
 SAME, AS_FAR = "the same: 1 signal up to tick 9", "the same as far as compared: 1 signal up to tick 9"
+THREE = "the same: 3 signals up to tick 9"
 SHORT = "|--within %s is half of a shortest run or more; pairs may be wrong:|    a: %s"
 FINER = "timescale: 1 ns, 100 ps (ticks are those of 100 ps)|"
 SKIPPED = "%s: not compared: 2 variables|    real 64 r|    event 1 e|"
@@ -56,7 +57,6 @@ ROWS = [
     # The same by other codes, in another order, with values that are written twice.
     ("--within 1", (ONE, "0! #3 1! #9"), (ONE, "0! #3 1! #4 1! #9"), 0, SAME),
     ("", (ONE + "|reg 2 b", '0! b1 " #9'), ("reg 2 b|" + ONE, 'b1 ! 0" #9'), 0, "the same: 2 signals up to tick 9"),
-    ("", ("", "#9"), ("", "#9"), 0, "the same: 0 signals up to tick 9"),
     # What is left out: variables, and with --strict their names, changes and comments, and a status.
     ("", REAL, REAL, 0, "A: not compared: 2 variables|B: not compared: 2 variables|" + AS_FAR),
     ("--strict", PLAIN, PLAIN, 0, SAME),
@@ -91,10 +91,9 @@ ROWS = [
     # Names.
     ("", (NAMES[0], "0! #9"), renamed("wire 1 tb.u.b", "reg 1 tb.u.b"), 1, "tb.u.b: wire, reg|"
      "tb.u.a: 1 difference, first at tick 0: 0, x|lines that differ: 2; the same: 1 signal up to tick 9"),
-    ("--map tb.u=top", NAMES, renamed("tb.u", "top"), 0, "the same: 3 signals up to tick 9"),
-    ("--map tb.q=tb.d", NAMES, renamed("tb.q", "tb.d"), 0, "the same: 3 signals up to tick 9"),
-    ("--map tb.u.a=tb.u.b --map tb.u.b=tb.u.a", (NAMES[0], "0! #9"), (NAMES[0], '0" #9'), 0,
-     "the same: 3 signals up to tick 9"),
+    ("--map tb.u=top", NAMES, renamed("tb.u", "top"), 0, THREE),
+    ("--map tb.q=tb.d", NAMES, renamed("tb.q", "tb.d"), 0, THREE),
+    ("--map tb.u.a=tb.u.b --map tb.u.b=tb.u.a", (NAMES[0], "0! #9"), (NAMES[0], '0" #9'), 0, THREE),
     *(("--map tb.u.a=tb.v --keep " + name, NAMES, renamed("tb.u.a", "tb.v"), 0, SAME)
       for name in ("tb.u.a", "tb.v", "tb.?.a", "*.v")),
     ("--map tb=top", NAMES, NAMES, 1,
@@ -139,9 +138,8 @@ def rows():
             is_told = found[2] == "" and re.fullmatch(re.escape("\n".join(lines)) + "\n" + last, found[1])
         yield "%s: %s" % (words or captures, found), found[0] == status and is_told
         if not words and status < 2:
-            other = compare("B A")
-            are_alike = (other[0], other[1].count("\n")) == (status, found[1].count("\n"))
-            yield "the other order of %s: %s" % (captures, other), are_alike
+            status_of_other, shown, _ = compare("B A")
+            yield same("B A of %s" % captures, (status_of_other, shown.count("\n")), (status, found[1].count("\n")))
 
 
 def command_lines():
@@ -149,8 +147,10 @@ def command_lines():
     for path in ("A", "--strict"):
         store("./" + path, text=text(*PLAIN) + " " * 9999)
     store_program("none_listed", text=NONE_LISTED)
+    writes = '#!/bin/sh\n[ /dev/stdin -ef A ] && echo "#9" >> A\nexec %s "$@"\n'
+    store_program("writes", text=writes % os.environ["VCDEDIT_AMEND"])
     for line in ("A - < A", "- ./--strict < A", "--strict -- --strict A", "A A --strict"):
-        yield line, compare(line) == (0, SAME + "\n", "")
+        yield same(line, compare(line), (0, SAME + "\n", ""))
     for line, status, told in (
         ("A", 2, "error: the following arguments are required: B"),
         ("A A --frob", 2, "error: unrecognized arguments: --frob"),
@@ -158,6 +158,7 @@ def command_lines():
         ("A A > /dev/full", 4, "standard output: No space left on device"),
         ('ulimit -f 1; "$0" - A < A', 2, "- or its copy in %s: File too large" % os.environ["TMPDIR"]),
         ('VCDEDIT_AMEND=/bin/true "$0" A A', 2, "A: /bin/true is no vcdedit"),
+        ('VCDEDIT_AMEND=./writes "$0" A ./--strict', 2, "A: another program writes it: run again when that has ended"),
         ('VCDEDIT_AMEND=./none_listed "$0" A A', 2, "A: its variables are not those that vcdedit lists"),
     ):
         found = compare(line)
@@ -166,17 +167,16 @@ def command_lines():
 
 
 def one_form():
-    """A capture is the same as what vcdedit writes of it, however its items are spelled."""
-    captures = [Capture(Chance(number)) for number in range(60)]
+    """A capture is the same as what vcdedit writes of it, however its items are spelled. Unproved some are taken."""
+    captures = [Capture(Chance(number)) for number in range(10 if IS_UNPROVED else 60)]
     cases = [(capture.text, ["--from=%d" % (capture.end // 3), "--to=%d" % (capture.end // 2), "--within=1"][: k % 4])
              for k, capture in enumerate(captures)]
     paths = sorted(path for pattern in CAPTURES for path in glob.glob(os.path.join(TOP, pattern)))
     yield "captures to read", len(paths) > 50
-    for capture, words in cases + [(load(path), []) for path in paths]:
+    for capture, words in cases + [(load(path), []) for path in paths[:: 8 if IS_UNPROVED else 1]]:
         store("A", text=capture)
         if run([os.environ["VCDEDIT"], "-i", "A", "--script", "/dev/null", "-o", "B"])[0] == 0:
-            found = compare(" ".join([*words, "A B"]))
-            yield "the one form of %r: %s" % (capture[:99], found), found[0] == 0
+            yield same("the one form of %r" % capture[:99], compare(" ".join([*words, "A B"]))[0], 0)
 
 
 def events_of(one, other, within):

@@ -5,19 +5,18 @@ import re
 import resource
 import sys
 
-from common import TOP, module_of, run, store, text_at
+from common import TOP, module_of, run, same, store, text_at
 
 BYTES_OF_CHANGE = 272
 BYTES_WHILE_READ = 32
 BYTES_OF_SIGNAL = 700
-# A word of each row of the table, and the shape of its capture.
-SHAPES = {"simulator": "simulator", "one clock": "clock", "8 channels": "channels", "90 lines": "toggles"}
-ROW = r"^\| (.+) \| ([0-9.]+) \| ([0-9]+) \|$"
+# Captures of which the memory is the least and the most, times the file, and their signals.
+SHAPES = {"simulator": 2000, "clock": 100, "channels": 100, "toggles": 100}
 # The changes of each of two signals, and a limit of addresses in which those of one do not fit.
 CHANGES, LIMIT = 1300000, 200 * 2**20
 FORETOLD = ("vcdedit-amend: memory may run out: the changes that the script asks for take about ([0-9.]+) MB, and "
             "([0-9.]+) MB are there\nvcdedit-amend: out of memory\n")
-RANGE_IN = ["README.md", "docs/COOKBOOK.md", "docs/vcdedit.1"]
+RANGE, RANGE_IN = r"([0-9]+) to ([0-9]+) times the file", ["README.md", "docs/COOKBOOK.md", "docs/vcdedit.1"]
 PEAK = """import resource, subprocess, sys
 subprocess.run(["sh", "-c", '"$@" > /dev/null; exit 0', "sh", *sys.argv[1:]])
 print(resource.getrusage(resource.RUSAGE_CHILDREN).ru_maxrss)"""
@@ -40,22 +39,18 @@ def changes_in(path):
     return len(re.findall(r"(?<!\S)(?:[01xz]\S+|b\S+ \S+)", text))
 
 
-def table(module):
-    """Each row of the cookbook's table, by a smaller capture of its kind."""
-    rows = re.findall(ROW, text_at("docs/COOKBOOK.md"), flags=re.M)
-    yield "rows of the table", len(rows) == len(SHAPES) and all(word in row[0] for word, row in zip(SHAPES, rows))
-    for (name, text, times), shape in zip(rows, SHAPES.values()):
+def times_the_file(module):
+    """The memory of captures of several kinds, and what the documents say of the least and the most of it."""
+    times = []
+    for shape, signals in SHAPES.items():
         path = module.make(".", shape, 2)
-        size, changes, memory = os.path.getsize(path), changes_in(path), peak(path)
-        yield "%s: %.1f bytes of text a change" % (name, size / changes), is_near(size / changes, float(text))
-        yield "%s: %.1f times the file" % (name, memory / size), is_near(memory / size, float(times))
-        signals = 2000 if shape == "simulator" else 100
-        most = BYTES_OF_CHANGE * changes + BYTES_OF_SIGNAL * signals
-        yield "%s: %d bytes of memory" % (name, memory), memory < 1.02 * most + 8000000
-    said = "%s to %s times the file" % (min(int(row[2]) for row in rows), max(int(row[2]) for row in rows))
+        memory, most = peak(path), BYTES_OF_CHANGE * changes_in(path) + BYTES_OF_SIGNAL * signals
+        times.append(memory / os.path.getsize(path))
+        yield "%s: %d bytes of memory" % (shape, memory), memory < 1.02 * most + 8000000
     for path in RANGE_IN:
-        found = re.findall(r"[0-9]+ to [0-9]+ times the file", text_at(path).replace("\n", " "))
-        yield "%s: %s" % (path, said), found != [] and set(found) == {said}
+        found = set(re.findall(RANGE, text_at(path).replace("\n", " ")))
+        right = len(found) == 1 and all(map(is_near, (min(times), max(times)), map(float, *found)))
+        yield "%s: %s times the file: %s" % (path, found, times), right
 
 
 def signals(module):
@@ -73,12 +68,10 @@ def forecasts():
     ticks = "".join('#%d\n%d!\n%d"\n' % (tick, tick % 2, tick % 2) for tick in range(CHANGES))
     capture, script = store("two", text=declared + ticks), store("script", text="value x 5\n")
     words = [os.environ["VCDEDIT_AMEND"], capture, "--script", script]
-    ample = run(words)
-    yield "ample memory: %s" % (ample,), ample == (0, "1\n", "")
+    yield same("ample memory", run(words), (0, "1\n", ""))
     limit = lambda: resource.setrlimit(resource.RLIMIT_AS, (LIMIT, resource.RLIM_INFINITY))
     compare = [os.path.join(TOP, "tools/vcdedit-compare"), "--from=%d" % (CHANGES - 9), capture, capture]
-    done = run(compare, preexec_fn=limit)
-    yield "a comparison in little memory: %s" % (done,), done[0] == 0
+    yield same("a comparison in little memory", run(compare, preexec_fn=limit)[0], 0)
     status, replies, errors = run(words, preexec_fn=limit)
     found = re.fullmatch(FORETOLD, errors)
     yield "little memory: status %d, %s" % (status, errors), (status, replies, bool(found)) == (5, "", True)
@@ -90,6 +83,6 @@ def forecasts():
 
 def check():
     module = module_of("bench/make_captures")
-    yield from table(module)
+    yield from times_the_file(module)
     yield from signals(module)
     yield from forecasts()

@@ -3,7 +3,7 @@
 import os
 import re
 
-from common import SKIPPED, TOP, lay_out, module_of, run, store, text_at, tools_missing
+from common import SKIPPED, TOP, lay_out, run, same, store, text_at, tools_missing
 
 # Half a second is not enough on a busy machine, so that a check of names waits longer.
 COMPLETE = """source <(sed 's/timeout 0.5/timeout 20/' "$1"); shift
@@ -55,7 +55,6 @@ def installs(folder):
         if words == ["PREFIX=here it is"]:
             yield from run_from_anywhere(os.path.join(folder, "here it is/bin"))
             yield from explains_tools(os.path.join(folder, "here it is/bin"))
-        yield from documents_stand_alone(next(path for path in added if path.endswith("/share/doc/vcdedit")))
         run(["make", "install", *words], cwd=folder)
         run(["make", "uninstall", *words], cwd=folder)
         yield "uninstall %s" % words, files_in(folder) == before
@@ -72,19 +71,6 @@ def packs(folder):
     names = [line.split()[-1].removesuffix(".gz") for line in held]
     yield "make deb: %s" % errors, status == 0 and are_whole(names)
     yield "what it wants", run(["dpkg-deb", "--field", path.strip(), "Depends"], cwd=folder)[1].startswith("libc6 ")
-
-
-def documents_stand_alone(folder):
-    """The installed documents name no file that is not installed: by links, by paths, or by `README`."""
-    module = module_of("checks/pages")
-    module.TOP = folder
-    pages = list(module.files(".md"))
-    yield "documents are installed", len(pages) == 5
-    for page in pages:
-        text = module.read(page)
-        lost = module.lost_links(page, text) + module.lost_paths(text) + re.findall(r"\bREADME\b|repository", text)
-        lost += re.findall(r"^    \$ (?:.* )?((?:tools|docs|crates|cases|checks)/\S+)", text, flags=re.M)
-        yield "%s stands alone: %s" % (page, "; ".join(lost)), not lost
 
 
 def run_from_anywhere(folder):
@@ -116,7 +102,7 @@ def explains_tools(folder):
         yield name + ": zsh knows it", name in text_at("completions/_vcdedit").split("\n")[0].split()
     for words, wanted in NAMES:
         found = completed("vcdedit-compare", os.path.join(folder, "../../named.vcd"), *words)
-        yield "bash completes %s: %s" % (words, found), found == wanted
+        yield same("bash completes %s" % words, found, wanted)
 
 
 def check():

@@ -5,7 +5,7 @@ import json
 import os
 import sys
 
-from common import EXAMPLES, TOP, module_of, run, store
+from common import EXAMPLES, TOP, module_of, run, same, store
 
 TOOL = os.path.join(TOP, "tools/vcdedit-table")
 I2C, I2C_LINE = os.path.join(EXAMPLES, "i2c/capture.vcd"), "i2c bench.scl bench.sda"
@@ -31,7 +31,7 @@ TIMES = [
     (2**63 - 1, "1 ps", "9223372036854.775807"), (2**63 - 1, "100 s", "922337203685477580700000000"), (7, "none", None),
 ]
 SPI = "$timescale 10 ns $end $var wire 1 ! c $end $var wire 1 \" d $end $enddefinitions $end\n#0 0! 1\"\n" + "".join(
-    "#%d %d!\n%s" % (tick, tick % 2, "#%d x\"\n" % (tick + 1) if tick == 9 else "") for tick in range(1, 12)) + "#20\n"
+    "#%d %d!\n%s" % (tick, tick % 2, "#%d x\"\n" % (tick + 1) if tick == 9 else "") for tick in range(1, 12)) + "#15 x!\n#20\n"
 SPI_ROWS = """line  decoder  first  last  first_us  last_us  what       mosi
 1     spi      1      7     0.01      0.07     word       0xf
 1     spi      9      11    0.09      0.11     partial 2
@@ -40,8 +40,7 @@ SPI_ROWS = """line  decoder  first  last  first_us  last_us  what       mosi
 2     spi      9      11    0.09      0.11     word       ?
 """
 SPI_LINES = ["spi c d - - 0 4 msb", "spi c d - - 0 2 msb"]
-REMARKS = ["spi: samples at which MOSI is x or z: 1",
-           "spi: without CS words are counted from tick 0: if one began before, all may be wrong"]
+REMARKS = ["spi: CLK becomes x or z: 1, at 15"]
 UART, GLITCHES, IVERILOG = (
     os.path.join(EXAMPLES, name, "capture.vcd") for name in ("sigrok-uart", "glitches", "iverilog"))
 # Words, the status, and a part of what is told, or nothing. Where the status is not 0, there is no table.
@@ -49,17 +48,18 @@ TOLD = [
     ([UART, "uart libsigrok.rx 115200 8 none 1"], 0,
      "vcdedit-table: line 1: uart: is 115200 a baud rate? BIT is how many ticks a bit lasts: 78125/9\n"),
     ([UART, "uart libsigrok.rx 9600 8 none 1"], 0,
-     "vcdedit-table: line 1: uart: the line is not idle for a frame from tick 0 on: "),
+     "vcdedit-table: line 1: uart: edges within frames more than a quarter of a bit early or late"),
     ([UART, "value libsigrok.rx 0"], 0, "no line decodes: write uart, spi or i2c, as in 'i2c bench.scl bench.sda'"),
     ([IVERILOG, "invert bench.clk", "remove @0", "cut 1000 9000"], 0,
-     "join may be wrong\nvcdedit-table: output: variables of one code that differ from now on: bench.clk, "
+     "vcdedit-table: output: variables of one code that differ from now on: bench.clk, "
      "bench.transmitter.clk\nvcdedit-table: no line decodes"),
     ([GLITCHES, "deglitch bench.rx 3us"], 1, "BadNumber\n    3us: write 3\n"),
     ([GLITCHES, "shift bench.rx 3.5us"], 1, "BadNumber\n    3.5us is between tick 3 and the next: write ticks\n"),
     ([GLITCHES, "force bench.rx 3 5 0x2F"], 1, "BadValueText\n    0x2F: write 101111\n"),
     ([I2C, "i2c bench.scl bench.sd"], 1, "bench.sd: NoSuchName\n    bench.sd: near names are bench.sda"),
     ([I2C, *I2C_LINE.split()], 1, "\n    quote each line: vcdedit-table CAPTURE"),
-    ([I2C, I2C_LINE, "--csv", "--json"], 2, "not allowed with"), ([I2C, I2C_LINE, "--script", "c"], 2, "or words"),
+    ([I2C, I2C_LINE, "--csv", "--json"], 2, "not allowed with"), (["--script", "-", "-"], 2, "standard input is the"),
+    ([I2C, I2C_LINE, "frob"], 1, "line 2: frob"), ([I2C, "frob", "--script", "script"], 1, "line 4: frob"),
     (["c", "list"], 3, "c: line 1: frob: UnexpectedWord"), (["--", "-c", "list"], 3, ": -c: line 1: frob: Unex"),
     *((words, 4, "vcdedit-table: none: No such file") for words in (["none", "list"], ["c", "--script", "none"])),
 ]
@@ -86,27 +86,26 @@ def table(*words, given=None):
 
 def check():
     for text, wanted in BUS:
-        rows = json.loads(table("-", "--json", "i2c c d", given=bus(text))[1])
-        found, is_remarked = [transfer_text(row) for row in rows], [row["remarks"] != "" for row in rows]
-        is_odd = "x" in text or "P" not in text
-        yield "the bus %s: %s" % (text, rows), (found, is_remarked) == (wanted, [is_odd] * len(wanted))
+        (line,) = json.loads(table("-", "--json", "i2c c d", given=bus(text))[1])
+        is_odd = "x" in text or "P" not in text or any("partial" in row for row in wanted)
+        yield same(text, (list(map(transfer_text, line["rows"])), line["remarks"] != []), (wanted, is_odd))
     status, shown, errors = table(I2C, "--csv", I2C_LINE)
     csv_rows = [{name: text for name, text in row.items() if text} for row in csv.DictReader(shown.splitlines())]
-    rows = json.loads(table(I2C, "--json", I2C_LINE)[1])
+    (line,) = json.loads(table(I2C, "--json", I2C_LINE)[1])
     texts = [{name: " ".join(value) if isinstance(value, list) else str(value) for name, value in row.items() if value}
-             for row in rows]
-    yield "csv and json have the same: %s" % shown, (status, errors, csv_rows) == (0, "", texts)
-    store("script", text="\n".join(["# asks", SPI_LINES[0], "list"]))
+             for row in ({"line": line["line"], "decoder": line["decoder"], **row} for row in line["rows"])]
+    yield same("csv and json", (status, errors, csv_rows), (0, "", texts))
+    store("script", text="\n".join(["# asks", SPI_LINES[0], "list\n"]))
     yield "the names of none", table("-", "--script", "script", given="$enddefinitions $end")[0] == 1
-    found = table("-", *SPI_LINES, given=SPI)
+    store("spi", text=SPI)
     told = "".join("vcdedit-table: line %d: %s\n" % (number, remark) for number in (1, 2) for remark in REMARKS)
-    yield "aligned: %s" % (found,), found == (0, SPI_ROWS, told)
-    yield "remarks in a file", table("-", "--csv", *SPI_LINES, given=SPI)[1].count(',"%s"' % "; ".join(REMARKS)) == 5
-    yield "no rows", [table(I2C, *form, "list")[1] for form in ([], ["--json"])] == ["", "[\n]\n"]
-    tool = module_of("tools/vcdedit-table")
+    yield same("aligned", table("-", *SPI_LINES, given=SPI), (0, SPI_ROWS, told))
+    yield same("no remarks", table("-q", "spi", "--script", "-", given="\n".join(SPI_LINES)), (0, SPI_ROWS, ""))
+    lines = json.loads(table("-q", "--json", "spi", *SPI_LINES)[1])
+    yield same("remarks, once", [line["remarks"] for line in lines], [REMARKS] * 2)
+    yield same("no rows", [table(I2C, *form, "list")[1] for form in ([], ["--json"])], ["", "[\n]\n"])
     for tick, timescale, wanted in TIMES:
-        found = tool.microseconds(tick, timescale)
-        yield "%d at %s: %s us" % (tick, timescale, found), found == wanted
+        yield same("%d at %s" % (tick, timescale), module_of(TOOL).microseconds(tick, timescale), wanted)
     os.link(store("c", text="frob\n"), "-c")
     for words, status, told in TOLD:
         found = table(*words)
@@ -115,5 +114,5 @@ def check():
     yield "no rate where bytes were found", "baud" not in table(UART, "uart libsigrok.rx 9600 8 none 1")[2]
     path = os.pathsep.join([os.path.join(TOP, "tools"), os.environ["PATH"]])
     words = [sys.executable, "-B", "-c", "import test_bus; test_bus.test_register_is_read()"]
-    found = run(words, cwd=TOP, env={**os.environ, "PATH": path, "PYTHONPATH": EXAMPLES})
-    yield "the test of the cookbook: %s" % (found,), found == (0, "", "")
+    environment = {**os.environ, "PATH": path, "PYTHONPATH": EXAMPLES}
+    yield same("the test of the cookbook", run(words, cwd=TOP, env=environment), (0, "", ""))

@@ -7,13 +7,12 @@ import signal
 import sys
 import unittest.mock
 
-from common import EXAMPLES, SKIPPED, TOP, load, load_if_there, module_of, run, store, store_program, tools_missing
+from common import EXAMPLES, TOP, load, load_if_there, module_of, run, same, store, store_program
 
 TOOL = os.path.join(TOP, "tools/vcdedit-view")
 I2C, I2C_LINE = os.path.join(EXAMPLES, "i2c/capture.vcd"), "i2c bench.scl bench.sda"
 GLITCHES, UART_LINE = os.path.join(EXAMPLES, "glitches/capture.vcd"), "uart bench.rx 10 8 none 1"
 NO_ROW = "line %d: uart: no row: a later line edits what it decodes (see --before)"
-WITHOUT_CS = "line 1: spi: without CS words are counted from tick 0: if one began before, all may be wrong"
 ODD, DIFFER = "GTKWave may not show: %s", "output: variables of one code that differ from now on: %s"
 
 
@@ -29,7 +28,7 @@ ROWS = {
     "frames that touch, the last up to the end": (
         text("r", "1! #20 0! #38 1! #40 0! #58 1! #59"), [LINE], [], {"uart": "0 -|20 byte_0x00|40 byte_0x00"}),
     "frames of one tick, the last at the end": (
-        text("c d", '0! 1" #3 1! #5 0! #6 1!'), ["spi c d - - 0 1 msb"], [WITHOUT_CS],
+        text("c d", '0! 1" #3 1! #5 0! #6 1!'), ["spi c d - - 0 1 msb"], [],
         {"spi": "0 -|3 word_mosi_0x1|4 -|6 word_mosi_0x1"}),
     "a decoder among edits": (BYTE, ["invert r", LINE, "undo"], [NO_ROW % 2], {}),
     "a decoder among edits that come to nothing": (
@@ -41,16 +40,15 @@ ROWS = {
         {"uart": "0 -|20 byte_0x40|40 -", "uart_2": "0 -|20 byte_0x40|40 -"}),
     "a decoder of a signal that gets another place": (
         text("r c", '1! 1" #20 0! 0" #34 1! 1" #36 0! 0" #38 1! 1" #50'), ["uart @1 2 8 none 1", "remove r"],
-        ["line 2: remove: signals from @1 on are one position earlier from here on", NO_ROW % 1], {}),
+        [NO_ROW % 1], {}),
     "a bus, in a capture of a simulator": (load(I2C).decode(), [I2C_LINE], [], {
         "i2c": "0 -|22 address_0x50_write|93 -|112 data_0x2a|183 -|212 address_0x50_read|283 -|302 data_0xc5|373 -",
         "i2c_conditions": "0 -|15 start|102 ack|192 ack|205 repeated-start|292 ack|382 nack|395 stop"}),
     "one of two signals of a name": (
         text("r r", '1! 1" #20 0" #34 1" #36 0" #38 1" #50'), ["uart @1 2 8 none 1"],
         ["GTKWave may show another signal of the name: r"], {"uart": "0 -|20 byte_0x40|40 -"}),
-    "names that are taken": (
-        text("decoded.i2c decoded.i2c_3", '1! 1" #9'), ["i2c @0 @1", "i2c @1 @0"],
-        [ODD % "decoded.i2c, decoded.i2c_3"], {"i2c_2": "0 -", "i2c_4": "0 -"}),
+    "taken names": (text("decoded.i2c decoded.i2c_3", '1! 1" #9'), ["i2c @0 @1", "i2c @1 @0"],
+                    [ODD % "decoded.i2c, decoded.i2c_3"], {"i2c_2": "0 -", "i2c_4": "0 -"}),
     "names that GTKWave may not show": (
         "$scope module s:1 $end $scope module [s] $end\n" + text("a:b #h v*w -n a[3]", "1!"), [],
         [ODD % "[s], a:b, #h, v*w, -n"], {}),
@@ -117,26 +115,19 @@ def rows_in(path):
 
 
 def rows():
-    """Rows. vcdedit reads the written file again, and finds the capture after the lines. FST keeps the rows."""
-    absent = tools_missing({"vcd2fst": "gtkwave"})
-    if absent:
-        yield "the way through FST: " + absent[0], SKIPPED
+    """Rows. vcdedit reads the written file again, and finds the capture after the lines."""
     for name, (capture, lines, told, wanted) in ROWS.items():
         store("c.vcd", text=capture)
         store("script", text="\n".join(lines))
         status, _, errors = view("c.vcd", "-o", "v.vcd", "--script", "script")
-        found = status, rows_in("v.vcd"), errors
-        yield "%s: %s" % (name, found), found == (0, wanted, "".join("vcdedit-view: %s\n" % line for line in told))
+        told = "".join("vcdedit-view: %s\n" % line for line in told)
+        yield same(name, (status, rows_in("v.vcd"), errors), (0, wanted, told))
         run([os.environ["VCDEDIT"], "-i", "c.vcd", "--script", "script", "-o", "w.vcd"])
         again = run([os.environ["VCDEDIT"], "-i", "v.vcd", "--script", "/dev/null", "-o", "/dev/stdout"])[1]
         comment, _, rest = again.partition("\n")
         shown = all("decoded.%s by line" % row in comment for row in wanted)
         yield "%s: its comment: %s" % (name, comment), "vcdedit-view: no evidence" in comment and shown
-        yield "%s: the signals: %s" % (name, again), rest == load("w.vcd").decode()
-        if not absent:
-            run(["vcd2fst", "v.vcd", "v.fst"])
-            back = store("back.vcd", text=run(["fst2vcd", "v.fst"])[1])
-            yield "%s: through FST" % name, rows_in(back) == wanted
+        yield same(name + ": the signals", rest, load("w.vcd").decode())
 
 
 def shown_names():
@@ -148,10 +139,9 @@ def settings():
     declared = "".join("$var %s $end\n" % one.replace(" ! ", " c%d " % place) for place, one in enumerate(NAMES))
     declared += "$var real 64 # v $end $upscope $end $enddefinitions $end #0 #9"
     store("c.vcd", text="$scope module my top $end\n%s\n" % declared)
-    status, _, errors = view("c.vcd", "-o", "v.vcd")
-    found, wanted = shown_names(), ["mytop." + name for name in NAMES.values()]
-    yield "names: %s" % found, status == 0 and found == wanted
-    yield "what is left out: " + errors, errors == "vcdedit-view: c.vcd: 1 variable left out\n"
+    found = view("c.vcd", "-o", "v.vcd")
+    yield same("what is left out", found, (0, "", "vcdedit-view: c.vcd: 1 variable left out\n"))
+    yield same("names", shown_names(), ["mytop." + name for name in NAMES.values()])
     written = load("v.vcd").decode()
     for name in ("module mytop", "rqs", "q [3]", "a[2] [3:0]"):
         yield "a name of one word: " + name, " %s $end\n" % name in written
@@ -159,55 +149,48 @@ def settings():
     store("c.vcd", text=load(GLITCHES).decode().replace("$enddefinitions", another))
     for lines, both in BEFORE.items():
         for words, wanted in zip(([], ["--before"]), both):
-            status, _, errors = view("c.vcd", *words, "-o", "v.vcd", *lines)
+            view("c.vcd", *words, "-o", "v.vcd", *lines)
             found = " ".join(shown_names()).replace("bench.", "").replace("decoded.", "")
-            yield "%s %s: %s, %s" % (words, lines, found, errors), (status, found) == (0, wanted)
+            yield same("%s %s" % (words, lines), found, wanted)
     declared = '$timescale 1 s $end $var reg 2 ! r $end $var wire 1 " q $end $enddefinitions $end'
     store("c.vcd", text=declared + ' #0 b10 ! 1" #9\n')
     view("c.vcd", "-o", "v.vcd", "--before", "invert r", "rename r before.q")
     items = re.findall(r"^\$(?:timescale|scope .* |upscope|dumpvars)", load("v.vcd").decode(), flags=re.M)
-    wanted = ["$timescale", "$scope module before_2 ", "$upscope", "$dumpvars"]
-    yield "a scope that is free, for the capture before: %s" % items, items == wanted
+    yield same("a free scope", items, ["$timescale", "$scope module before_2 ", "$upscope", "$dumpvars"])
     store("script", text="value before_2.r 9\nvalue before.q 9\nvalue before_2.q 9\n")
     values = run([os.environ["VCDEDIT"], "-i", "v.vcd", "--script", "script"])
-    yield "the capture before: %s" % (values,), values[1] == "10\n01\n1\n"
+    yield same("the capture before", values[1], "10\n01\n1\n")
     for words, begin, scale, size in WINDOWS:
         view(GLITCHES, "-o", "v.vcd", UART_LINE, *words)
         saved = load("v.gtkw").decode()
         zoom = float(re.search(r"^\*(\S+)", saved, flags=re.M).group(1))
         told = "[timestart] %d\n[size] %d %d\n" % (begin, *size)
         yield "the window of %s: %s" % (words, saved), told in saved and int(2**-zoom) == scale
-    tool, old = module_of("tools/vcdedit-view"), store("old", text="old")
+    tool, old = module_of(TOOL), store("old", text="old")
+    os.chmod(old, 0o600)
+    os.chown(old, *[1, 1] if os.getuid() == 0 else [-1, -1])
+    state_of = lambda: [getattr(os.stat(old), "st_" + name) for name in ("mode", "uid", "gid")]
+    state = state_of()
     with unittest.mock.patch("os.replace", side_effect=OSError), contextlib.suppress(tool.Trouble):
         tool.copy_whole(TOOL, old)
     left = [name for name in os.listdir() if "vcdedit-view" in name]
-    yield "a copy that fails: %s, %s" % (load(old), left), (load(old), left) == (b"old", [])
-    os.chmod(old, 0o600)
-    os.chown(old, *[1, 1] if os.getuid() == 0 else [-1, -1])
-    before = os.stat(old)
+    yield same("a copy that fails", (load(old), left), (b"old", []))
     tool.copy_whole(TOOL, old)
-    kept = [getattr(os.stat(old), name) == getattr(before, name) for name in ("st_mode", "st_uid", "st_gid", "st_size")]
-    yield "mode and owner of a file that is replaced: %s" % kept, kept == [True, True, True, False]
+    yield same("a file that is replaced", (load(old), state_of()), (load(TOOL), state))
 
 
 def programs():
-    """A listing that a pipe does not hold, a capture that changes between two runs, and only one of the programs."""
+    """A listing that a pipe does not hold, and a capture that changes between two runs."""
     many = "".join("$var wire 1 ! a_signal_of_many_%d $end\n" % place for place in range(3000))
     store("many.vcd", text=many + "$enddefinitions $end #0 1! #9\n")
     found = view(I2C, "-o", "v.vcd", I2C_LINE, before=["/bin/sh", "-c", 'exec "$@" > /dev/full', "sh"])
     told = "vcdedit-view: standard output or %s: No space left on device\n" % os.path.abspath("tmp")
-    yield "a full standard output: %s" % (found,), found == (4, "", told)
+    yield same("a full standard output", found, (4, "", told))
     writes = store_program("./writes", text='#!/bin/sh\necho "#9" >> many.vcd\nexec %s "$@"\n' % os.environ["VCDEDIT"])
     found = view("many.vcd", "-o", "w.vcd", "invert @0", VCDEDIT=writes)
     told = "vcdedit-view: %s\nvcdedit-view: many.vcd: another program writes it: run again when that has ended\n"
     told %= DIFFER % (", ".join(map("a_signal_of_many_%d".__mod__, range(5))) + ", and 2995 more")
-    yield "a capture that changes: %s" % (found,), found == (4, "", told)
-    first_look = '#!/bin/sh\necho "first-look: a build" >&2\nexec %s "$@"\n' % os.environ["VCDEDIT"]
-    found = view(I2C, "-o", "v.vcd", I2C_LINE, VCDEDIT=store_program("./look", text=first_look), VCDEDIT_AMEND="none")
-    told = "vcdedit-view: no remarks on lines: there is no program none: say in VCDEDIT_AMEND where it is\n"
-    yield "first-look alone: %s" % (found,), found[:1] == (0,) and I2C_LINE in found[1] and found[2].startswith(told)
-    found = view(I2C, "-o", "v.vcd", "value bench.d 0", VCDEDIT_AMEND="none")
-    yield "a refusal without vcdedit-amend: %s" % (found,), found[0] == 1 and "value bench.d 0: NoSuchName" in found[2]
+    yield same("a capture that changes", found, (4, "", told))
 
 
 def refusals():
@@ -232,18 +215,18 @@ def viewers():
     tools, saw = os.path.abspath("tools"), '#!/bin/sh\necho "$0 $*" > ${0%/*}/saw; /bin/cat *.vcd > ${0%/*}/seen\n'
     for tool, words in (("surfer", "capture.vcd"), ("gtkwave", "capture.vcd capture.gtkw"), ("other", "capture.vcd")):
         path = store_program(tools, tool, text=saw)
-        status, _, errors = view(I2C, I2C_LINE, **({"VCDEDIT_VIEWER": path} if tool == "other" else {"PATH": tools}))
-        found = status, load("tools/saw").decode(), "i2c_conditions" in rows_in("tools/seen")
-        yield "starts %s: %s, %s" % (tool, found, errors), found == (0, "%s %s\n" % (path, words), True)
+        view(I2C, I2C_LINE, **({"VCDEDIT_VIEWER": path} if tool == "other" else {"PATH": tools}))
+        found = load("tools/saw").decode(), "i2c_conditions" in rows_in("tools/seen")
+        yield same(tool, found, ("%s %s\n" % (path, words), True))
     store_program(tools, "gtkwave", text="#!/bin/sh\nexit 3\n")
-    status, _, errors = view(I2C, PATH=tools)
-    yield "a viewer that fails: " + errors, status == 4 and "ended with status 3; -o and --picture" in errors
+    told = "vcdedit-view: %s/gtkwave ended with status 3; -o and --picture need no screen\n" % tools
+    yield same("a viewer that fails", view(I2C, PATH=tools), (4, "", told))
     store_program(tools, "gtkwave", text="#!/bin/sh\n/bin/sleep 0.5\nkill -TERM $PPID\nexec /bin/sleep 20\n")
     yield "a signal ends it", view(I2C, PATH=tools)[0] == 128 + signal.SIGTERM
     store_program(tools, "xauth", text="")
     store_program(tools, "xvfb-run", text="#!/bin/sh\necho none\n")
-    status, _, errors = view(I2C, "--picture", "p.png", PATH=tools)
-    yield "no picture: " + errors, status == 4 and errors == "vcdedit-view: GTKWave made no picture: none\n"
+    found = view(I2C, "--picture", "p.png", PATH=tools)
+    yield same("no picture", found, (4, "", "vcdedit-view: GTKWave made no picture: none\n"))
     store_program(tools, "xvfb-run", text="#!/bin/sh\n/bin/cat *.gtkw show.tcl rc > picture.png\n")
     view(I2C, I2C_LINE, "--picture", "p.png", PATH=tools)
     yield "a picture", b"decoded.i2c" in load_if_there("p.png", default=b"")

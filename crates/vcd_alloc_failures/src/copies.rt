@@ -9,7 +9,7 @@ use crate::files::{ROOM, tell_source};
 use crate::printing::{DONE, Failure, allow, refuse};
 use std::alloc::Global;
 use std::rt::Runtime;
-use vcd_amend::{AmendedCode, Amendment, DeclaredVariable, amend, declared_variables};
+use vcd_amend::{AmendedCode, Amendment, DeclaredVariable, amend_marked, declared_variables};
 use vcd_copy::{AmendableItem, Amender, CopyError, InPlace, copy};
 use vcd_core::{
     Bit, DeviceFault, FromRead, NoMemory, ScopeName, Sink, ToWrite, Value, Wave, copy_word,
@@ -152,18 +152,21 @@ fn two_changes(alloc: Global) -> Result<Amendment, NoMemory>
     })
 }
 
-/// Makes the call `amend`. The amended text is dropped. Prints what `read` prints of the source.
+/// Makes the call `amend_marked`. The amended text is dropped. Prints what `read` prints of the
+/// source.
 pub fn call_amend<R: Runtime + AllocGlobal>(rt: &R, call: &Call) -> Result<(), Failure> {
     let amendment = two_changes(rt.alloc())?;
     let mut source = FromRead::new(call.text);
     let mut sink = Dropping { is_flushed: false };
     if call.makes {
         refuse(rt)?;
-        match amend(
+        match amend_marked(
             rt.alloc(),
             &mut source,
             VARIABLE_LIMIT,
+            &[],
             &amendment,
+            None,
             &mut sink,
         ) {
             Ok(()) => allow(rt, DONE)?,

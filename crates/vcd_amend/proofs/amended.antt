@@ -8,5 +8,6 @@ pub mod Fitting
 pub mod Declared
 pub mod Whole
 pub mod Spelled
+pub mod OtherWords
 pub mod WholeText
 pub mod CopiedText

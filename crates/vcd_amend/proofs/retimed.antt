@@ -6,7 +6,7 @@ pub mod LastChanges
 pub mod Accepted
 pub mod Meaning
 pub mod Pieces
-pub mod Stamps
 pub mod ChangesAtTicks
 pub mod Order
 pub mod NoCut
+pub mod OtherTicks

@@ -1,2 +1,3 @@
 -- Worked cases.
 pub mod AmendedFiles
+pub mod WrongTexts

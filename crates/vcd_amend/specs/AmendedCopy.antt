@@ -1,11 +1,11 @@
 -- The amended text as a copy: what an amender puts in the place of each item, by an amendment. The
 -- project's own.
-use Rattle.std.specs.Prelude.{◌≡◌, ℕ, Bool, true, List, [], ◌∷◌, ◌++◌, map, IsTrue}
+use Rattle.std.specs.Prelude.{◌≡◌, ℕ, Bool, true, List, [], ◌∷◌, ◌++◌}
 use Rattle.std.specs.List.{flat_map, join_with_byte}
 use Rattle.vcd_text.specs.Items.{spelling}
-use Rattle.vcd_text.specs.Grammar.{ParseState, initial_state, state_after_item, AllowsAll}
+use Rattle.vcd_text.specs.Grammar.{ParseState, initial_state, state_after_item}
 use Rattle.vcd_text.specs.Text.{item_line}
-use Rattle.vcd_copy.specs.Pieces.{Piece, IsCut, state_of_pieces}
+use Rattle.vcd_copy.specs.Pieces.{Piece, state_of_pieces}
 use Rattle.vcd_copy.specs.Copied.{CopyRules, copied}
 use Rattle.vcd_amend.specs.Amendment.{Amendment}
 use Rattle.vcd_amend.specs.AmendedItems.{item_fate, inserted_items, items_due_at, still_none_yet}
@@ -37,12 +37,3 @@ abbrev pub CopyIsAmendedText : Type 0
 CopyIsAmendedText = (a : Amendment) (limit : ℕ) (pieces : List Piece) (tail : List ℕ)
     → copied (amendment_rules a limit) pieces tail
     ≡ amended_text a true (initial_state limit) pieces tail
-
--- the file is accepted, and this text is the amended file
-pub record IsAmended (limit : ℕ) (a : Amendment) (file text : List ℕ) : Type 0 where
-  pub pieces : List Piece
-  pub tail : List ℕ
-  pub cut : IsCut file pieces tail
-  pub allowed : AllowsAll (initial_state limit) (map (λ p. p.item) pieces)
-  pub in_body : IsTrue (state_of_pieces limit pieces).in_body
-  pub is : text ≡ amended_text a true (initial_state limit) pieces tail

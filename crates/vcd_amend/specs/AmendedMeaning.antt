@@ -8,14 +8,14 @@ use Rattle.vcd_core.specs.Word.{is_word}
 use Rattle.vcd_core.specs.Wave.{value_at, changes_of, IsWave, AllUpTo}
 use Rattle.vcd_core.specs.Contents.{Contents, SignalContents}
 use Rattle.vcd_core.specs.Sound.{IsSoundSignal}
-use Rattle.vcd_text.specs.Items.{Item, variable}
+use Rattle.vcd_text.specs.Items.{Item}
 use Rattle.vcd_text.specs.Grammar.{VariableDeclaration, ParseState, is_skipped, kept_variables}
-use Rattle.vcd_text.specs.Grammar.{declaration_of, variable_of, state_after, initial_state}
+use Rattle.vcd_text.specs.Grammar.{state_after, initial_state}
 use Rattle.vcd_text.specs.Grammar.{AllowsAll}
 use Rattle.vcd_text.specs.Meaning.{declared_signal, changes_of_code, meaning}
 use Rattle.vcd_amend.specs.Amendment.{AmendedCode, Fate, Amendment, is_changed, amended_variables}
 use Rattle.vcd_amend.specs.Amendment.{first_with_code, is_used, amended_code}
-use Rattle.vcd_amend.specs.AmendedItems.{stands, change_fate, real_fate, item_fate, amended_items}
+use Rattle.vcd_amend.specs.AmendedItems.{amended_items}
 
 -- ---- the meaning
 
@@ -88,15 +88,6 @@ pub record FitsFile (a : Amendment) (s : ParseState) : Type 0 where
   pub few : length (amended_meaning a s).signals ≤ s.limit
 
 -- ---- the laws
-
--- a skipped variable stands, and so do the changes of its code
-abbrev pub SkippedVariablesStand : Type 0
-SkippedVariablesStand = (a : Amendment) (s : ParseState) (d : VariableDeclaration) → FitsFile a s
-    → is_skipped d ≡ true
-    → ((words : List (List ℕ)) → declaration_of s words ≡ Some d
-    → item_fate a s (variable words) ≡ stands)
-    × (variable_of s d.code ≡ Some d
-    → (change_fate a s d.code ≡ stands) × (real_fate a s d.code ≡ stands))
 
 -- items that are accepted, and mean what a state means once it is amended; as many variables are
 -- skipped as in that state

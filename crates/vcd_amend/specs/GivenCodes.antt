@@ -1,7 +1,7 @@
 -- The codes that the signals of another capture get, and the amendment by which a file means that
 -- capture. The project's own.
-use Rattle.std.specs.Prelude.{◌≡◌, ℕ, ◌+◌, ◌≤◌, ◌==◌, ◌&&◌, if◌then◌else◌, Bool, true, false}
-use Rattle.std.specs.Prelude.{List, [], ◌∷◌, ◌++◌, map, count_by, length, drop, find, All, Option}
+use Rattle.std.specs.Prelude.{◌≡◌, ℕ, ◌+◌, ◌≤◌, ◌==◌, ◌&&◌, if◌then◌else◌, Bool, false}
+use Rattle.std.specs.Prelude.{List, [], ◌∷◌, ◌++◌, map, length, drop, find, All, Option}
 use Rattle.std.specs.Prelude.{Some, None, IsTrue, is_some}
 use Rattle.std.specs.List.{list_any}
 use Rattle.std.specs.Str.{bytes_eq}
@@ -11,12 +11,9 @@ use Rattle.vcd_core.specs.Value.{same_letters}
 use Rattle.vcd_core.specs.Word.{is_word, is_one_of}
 use Rattle.vcd_core.specs.Contents.{SignalContents}
 use Rattle.vcd_core.specs.Sound.{IsSoundSignal}
-use Rattle.vcd_text.specs.Grammar.{VariableDeclaration, ParseState, kept_variables, is_skipped}
-use Rattle.vcd_text.specs.Grammar.{initial_state, AllowsAll}
-use Rattle.vcd_text.specs.Meaning.{declared_signal, meaning, FileMeans}
+use Rattle.vcd_text.specs.Grammar.{VariableDeclaration, ParseState, kept_variables}
+use Rattle.vcd_text.specs.Meaning.{declared_signal}
 use Rattle.vcd_amend.specs.Amendment.{Amendment, AmendedCode, first_with_code}
-use Rattle.vcd_copy.specs.Pieces.{Piece, IsCut, state_of_pieces}
-use Rattle.vcd_amend.specs.AmendedText.{amended_text}
 use Rattle.vcd_amend.specs.FreshCodes.{fresh_code}
 use Rattle.vcd_amend.specs.CodedAmendment.{CodedSignal, AreAlike, CodesFit, coded_amendment}
 
@@ -225,23 +222,3 @@ GivenCodesFit = (s : ParseState) (remaining : List (Option SignalContents))
     (coded_derived (drop (length (changed_waves s remaining)) (coded_waves s remaining derived))
     derived)
     (map (λ g. g.coded) (coded_waves s remaining derived))
-
--- the text of a file that is amended for another capture means that capture, with as many variables
--- skipped as before
-abbrev pub AmendedTextMeansOtherCapture : Type 0
-AmendedTextMeansOtherCapture =
-    (limit : ℕ) (file : List ℕ) (pieces : List Piece) (tail : List ℕ)
-    (remaining : List (Option SignalContents)) (derived : List SignalContents)
-    → IsCut file pieces tail
-    → AllowsAll (initial_state limit) (map (λ p. p.item) pieces)
-    → IsTrue (state_of_pieces limit pieces).in_body
-    → AreSignalsOf (state_of_pieces limit pieces)
-    (kept_variables (state_of_pieces limit pieces).declared) remaining
-    → All (IsSoundSignal (state_of_pieces limit pieces).tick) derived
-    → length (signals_left remaining) + length derived ≤ limit
-    → FileMeans limit (amended_text (amendment_for (state_of_pieces limit pieces) remaining
-    derived) true (initial_state limit) pieces tail)
-    (record (meaning (state_of_pieces limit pieces)) {
-      signals = signals_left remaining ++ derived;
-    })
-    (count_by is_skipped (state_of_pieces limit pieces).declared)

@@ -1,11 +1,12 @@
 -- The laws of a file after ticks are cut out. The project's own.
 use Rattle.std.specs.Prelude.{◌≡◌, ℕ, ◌+◌, ◌-◌, ◌≤◌, ◌==◌, ◌&&◌, ◌||◌, Bool, false}
 use Rattle.std.specs.Prelude.{nat_lt, nat_le, if◌then◌else◌, List, [], ◌∷◌, ◌++◌, map}
-use Rattle.std.specs.Prelude.{not, Option, Some, None, is_some, IsTrue, count_by, ◌⊎◌, codes, ◌≢◌}
-use Rattle.std.specs.List.{flat_map, filter, list_any, Any}
+use Rattle.std.specs.Prelude.{not, Option, Some, None, is_some, IsTrue, count_by}
+use Rattle.std.specs.List.{flat_map, filter, list_any}
+use Rattle.std.specs.Cmp.Lexicographic.{pointwise}
 use Rattle.vcd_core.specs.Decimal.{number_of}
 use Rattle.vcd_text.specs.Items.{Item, stamp}
-use Rattle.vcd_text.specs.Grammar.{VariableDeclaration, ParseState, initial_state}
+use Rattle.vcd_text.specs.Grammar.{ParseState, initial_state}
 use Rattle.vcd_text.specs.Grammar.{AllowsAll, is_skipped}
 use Rattle.vcd_text.specs.Meaning.{FileMeans, meaning}
 use Rattle.vcd_copy.specs.Pieces.{Piece, IsCut, state_of_pieces}
@@ -88,40 +89,12 @@ RetimedTextMeansRetimedCapture =
     (retimed_contents is_cut_out old_tick (meaning (state_of_pieces limit pieces)))
     (count_by is_skipped (state_of_pieces limit pieces).declared)
 
--- ---- the changes that are left
+-- ---- the order of changes
 
 -- the tick after an item
 abbrev pub tick_after_item : ℕ → Item → ℕ
 tick_after_item now (stamp digits) = number_of digits
 tick_after_item now item = now
-
--- the last change up to a tick of those that count together with this key, among pieces that come
--- after a stamp of `now`, or else `before`
-unfoldable pub last_change : (is_kept : List ℕ → Bool) → ChangeKey → (t now : ℕ)
-    → (before : Option Piece) → List Piece → Option Piece
-last_change is_kept key t now before [] = before
-last_change is_kept key t now before (p ∷ ps) =
-    last_change is_kept key t (tick_after_item now p.item)
-    (if counts_with is_kept key (change_key p.item) && nat_le now t then Some p else before) ps
-
--- a variable has the code, and is no event
-abbrev pub IsNoEvent : (code : List ℕ) → VariableDeclaration → Type 0
-IsNoEvent code d = (d.code ≡ code) × (d.kind ≢ codes "event")
-
--- at each new tick the last change of a code is that of the file at the old tick, with its bytes,
--- if one of its variables is no event; of a code of a kept variable both the last one to digits and
--- the last one to a real or a string
-abbrev pub LastChangesStand : Type 0
-LastChangesStand =
-    (is_cut_out : ℕ → Bool) (old_tick : ℕ → ℕ) (limit : ℕ) (file : List ℕ) (pieces : List Piece)
-    (tail : List ℕ) (key : ChangeKey) (t : ℕ)
-    → CanBeRetimed is_cut_out old_tick limit file pieces tail
-    → Any (IsNoEvent (code_of_key key)) (state_of_pieces limit pieces).declared
-    → last_change (has_kept_variable (state_of_pieces limit pieces)) key t 0 None
-    (pieces_after is_cut_out limit pieces)
-    ≡ last_change (has_kept_variable (state_of_pieces limit pieces)) key (old_tick t) 0 None pieces
-
--- ---- the order of changes
 
 -- the changes at the ticks of a test, among pieces that come after a stamp of `now`
 unfoldable pub changes_at_ticks : (is_at : ℕ → Bool) → (now : ℕ) → List Piece → List Piece
@@ -148,19 +121,6 @@ abbrev pub lasts_with : ParseState → Option ChangeKey → Bool
 lasts_with s None = false
 lasts_with s (Some key) = lasts s (code_of_key key)
 
--- at each new tick the changes of the file at the old tick stand, in their order, and after them
--- those at the ticks before it that are cut out, if they last and count together with no later one
-abbrev pub ChangesStandInOrder : Type 0
-ChangesStandInOrder =
-    (is_cut_out : ℕ → Bool) (old_tick : ℕ → ℕ) (limit : ℕ) (file : List ℕ) (pieces : List Piece)
-    (tail : List ℕ) (t : ℕ) (here cut : List Piece)
-    → CanBeRetimed is_cut_out old_tick limit file pieces tail
-    → here ≡ changes_at_ticks (λ u. u == old_tick t) 0 pieces
-    → cut ≡ changes_at_ticks (λ u. is_cut_out u && (new_tick is_cut_out u == t)) 0 pieces
-    → changes_at_ticks (λ u. u == t) 0 (pieces_after is_cut_out limit pieces)
-    ≡ here ++ last_ones (has_kept_variable (state_of_pieces limit pieces))
-    (filter (λ p. lasts_with (state_of_pieces limit pieces) (change_key p.item)) cut) here
-
 -- ---- all else
 
 -- whether an item is neither a stamp nor a change
@@ -168,31 +128,35 @@ abbrev pub is_neither : Item → Bool
 is_neither (stamp digits) = false
 is_neither item = not (is_some (change_key item))
 
--- the pieces that are neither stand, in their order
-abbrev pub OtherPiecesStand : Type 0
-OtherPiecesStand =
+-- the ticks of those that are neither, among pieces that come after a stamp of `now`
+unfoldable pub ticks_of_others : (now : ℕ) → List Piece → List ℕ
+ticks_of_others now [] = []
+ticks_of_others now (p ∷ ps) = (if is_neither p.item then now ∷ [] else [])
+    ++ ticks_of_others (tick_after_item now p.item) ps
+
+-- ---- what stands, and at which tick
+
+-- what cuts make of pieces of a file with this state
+pub record AreRetimed (is_cut_out : ℕ → Bool) (s : ParseState) (pieces after : List Piece) : Type 0
+  where
+    -- at the new tick of each tick that is left its changes stand, in their order, and after them
+    -- those at the ticks before it that are cut out, if they last and count together with no later
+    -- one
+    pub changes : (t : ℕ) → is_cut_out t ≡ false →
+        let here : List Piece = changes_at_ticks (λ u. u == t) 0 pieces in
+        changes_at_ticks (λ u. u == new_tick is_cut_out t) 0 after
+        ≡ here ++ last_ones (has_kept_variable s)
+        (filter (λ p. lasts_with s (change_key p.item)) (changes_at_ticks (λ u. is_cut_out u
+        && (new_tick is_cut_out u == new_tick is_cut_out t)) 0 pieces)) here
+    -- what is neither a stamp nor a change stands, in order, at its new tick if its tick is left
+    pub others : filter (λ p. is_neither p.item) after ≡ filter (λ p. is_neither p.item) pieces
+    pub ticks : IsTrue (pointwise (λ t u. is_cut_out t || (u == new_tick is_cut_out t))
+        (ticks_of_others 0 pieces) (ticks_of_others 0 after))
+
+-- the pieces after cuts are such
+abbrev pub PiecesAfterCutsAreRetimed : Type 0
+PiecesAfterCutsAreRetimed =
     (is_cut_out : ℕ → Bool) (old_tick : ℕ → ℕ) (limit : ℕ) (file : List ℕ) (pieces : List Piece)
     (tail : List ℕ) → CanBeRetimed is_cut_out old_tick limit file pieces tail
-    → filter (λ p. is_neither p.item) (pieces_after is_cut_out limit pieces)
-    ≡ filter (λ p. is_neither p.item) pieces
-
--- ---- the stamps that are put in
-
--- whether an item is a stamp of a tick
-abbrev pub is_stamp_of : ℕ → Item → Bool
-is_stamp_of t (stamp digits) = number_of digits == t
-is_stamp_of t item = false
-
--- how many stamps of a tick there are
-unfoldable pub stamp_count : ℕ → List Piece → ℕ
-stamp_count t [] = 0
-stamp_count t (p ∷ ps) = (if is_stamp_of t p.item then 1 else 0) + stamp_count t ps
-
--- each new tick has the stamps of its old tick, or one if that has none
-abbrev pub StampsStand : Type 0
-StampsStand =
-    (is_cut_out : ℕ → Bool) (old_tick : ℕ → ℕ) (limit : ℕ) (file : List ℕ) (pieces : List Piece)
-    (tail : List ℕ) (t : ℕ) → CanBeRetimed is_cut_out old_tick limit file pieces tail
-    → (stamp_count t (pieces_after is_cut_out limit pieces) ≡ stamp_count (old_tick t) pieces)
-    ⊎ ((stamp_count (old_tick t) pieces ≡ 0)
-    × (stamp_count t (pieces_after is_cut_out limit pieces) ≡ 1))
+    → AreRetimed is_cut_out (state_of_pieces limit pieces) pieces
+    (pieces_after is_cut_out limit pieces)

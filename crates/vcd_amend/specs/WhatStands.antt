@@ -4,27 +4,26 @@ use Rattle.std.specs.Prelude.{◌≡◌, ℕ, Bool, true, false, not, ◌&&◌, 
 use Rattle.std.specs.Prelude.{◌∷◌, ◌++◌, map, length, All, Option, Some, None, is_some, IsTrue}
 use Rattle.std.specs.Prelude.{get_or}
 use Rattle.std.specs.Prelude.{bytes_eq, count_by}
-use Rattle.std.specs.List.{flat_map, list_all, list_any, zip, join_with_byte}
+use Rattle.std.specs.List.{list_any, zip}
 use Rattle.std.specs.Cmp.Lexicographic.{pointwise}
 use Rattle.vcd_core.specs.Decimal.{number_of}
 use Rattle.vcd_core.specs.Word.{is_one_of}
 use Rattle.vcd_core.specs.Value.{same_letters}
+use Rattle.vcd_core.specs.declared.wave.Change.{Change}
 use Rattle.vcd_core.specs.Wave.{value_at}
 use Rattle.vcd_core.specs.Contents.{SignalContents}
 use Rattle.vcd_core.specs.Sound.{IsSoundSignal}
-use Rattle.vcd_text.specs.Words.{words_of}
-use Rattle.vcd_text.specs.Items.{Item, spelling, scope, upscope, variable, stamp, scalar, vector}
+use Rattle.vcd_text.specs.Items.{Item, scope, upscope, variable, stamp, scalar, vector}
 use Rattle.vcd_text.specs.Items.{real_or_string}
 use Rattle.vcd_text.specs.Grammar.{VariableDeclaration, ParseState, kept_variables, is_skipped}
 use Rattle.vcd_text.specs.Grammar.{declaration_of, initial_state, state_after_item, AllowsAll}
-use Rattle.vcd_text.specs.Grammar.{word_texts}
 use Rattle.vcd_text.specs.Meaning.{declared_signal, meaning, FileMeans}
-use Rattle.vcd_text.specs.Text.{item_line}
-use Rattle.vcd_amend.specs.Amendment.{Amendment, amended_code, wave_has_change}
+use Rattle.vcd_amend.specs.Amendment.{wave_has_change}
 use Rattle.vcd_copy.specs.Pieces.{Piece, IsCut, state_of_pieces}
 use Rattle.vcd_amend.specs.AmendedText.{amended_text}
 use Rattle.vcd_amend.specs.GivenCodes.{AreSignalsOf, is_unchanged, signals_left, amendment_for}
 use Rattle.vcd_amend.specs.GivenCodes.{held_codes}
+use Rattle.vcd_amend.specs.RetimedLaws.{tick_after_item}
 
 -- ---- which items may go, and which may come
 
@@ -34,21 +33,34 @@ abbrev pub declaration_may_go : ParseState → VariableDeclaration → Option Si
 declaration_may_go s d None = true
 declaration_may_go s d (Some n) = not (pointwise bytes_eq d.words n.words && is_unchanged s d n)
 
--- whether a change of a variable at a tick may go: nothing is left of it, or the two waves differ
--- there, or the old one alone changes
-abbrev pub change_may_go : ParseState → ℕ → VariableDeclaration → Option SignalContents → Bool
-change_may_go s t d None = true
-change_may_go s t d (Some n) =
-    not (same_letters (value_at d.size (declared_signal s.value_changes s.tick d).changes t)
-    (value_at d.size n.changes t))
-    || (wave_has_change (declared_signal s.value_changes s.tick d).changes t
-    && not (wave_has_change n.changes t))
-
 -- whether this holds of a variable that has the code
 abbrev pub any_with_code : (VariableDeclaration → Option SignalContents → Bool) → (code : List ℕ)
     → List VariableDeclaration → List (Option SignalContents) → Bool
 any_with_code test code ds remaining =
     list_any (λ p. bytes_eq code p.0.code && test p.0 p.1) (zip ds remaining)
+
+-- whether the wave that is left of a variable differs at a tick from that in the file, or does not
+-- change where that one does
+abbrev pub wave_differs : ParseState → ℕ → VariableDeclaration → Option SignalContents → Bool
+wave_differs s t d None = false
+wave_differs s t d (Some n) =
+    let old : List Change = (declared_signal s.value_changes s.tick d).changes in
+    not (same_letters (value_at d.size old t) (value_at d.size n.changes t))
+    || (wave_has_change old t && not (wave_has_change n.changes t))
+
+-- whether a code has kept variables, and nothing is left of them
+abbrev pub is_gone : ParseState → (remaining : List (Option SignalContents)) → (code : List ℕ)
+    → Bool
+is_gone s remaining code =
+    any_with_code (λ d o. not (is_some o)) code (kept_variables s.declared) remaining
+    && not (any_with_code (λ d o. is_some o) code (kept_variables s.declared) remaining)
+
+-- whether a change of a code to digits at a tick may go
+abbrev pub change_may_go : ParseState → (remaining : List (Option SignalContents)) → ℕ
+    → (code : List ℕ) → Bool
+change_may_go s remaining t code =
+    any_with_code (wave_differs s t) code (kept_variables s.declared) remaining
+    || is_gone s remaining code
 
 -- whether a `$var` after other variables may go, if it declares this one, or none
 abbrev pub variable_may_go : ParseState → (remaining : List (Option SignalContents))
@@ -62,12 +74,9 @@ abbrev pub may_go : ParseState → (remaining : List (Option SignalContents)) �
     → Item → Bool
 may_go s remaining now (variable words) =
     variable_may_go s remaining now.declared (declaration_of now words)
-may_go s remaining now (scalar digit code) =
-    any_with_code (change_may_go s now.tick) code (kept_variables s.declared) remaining
-may_go s remaining now (vector first digits code) =
-    any_with_code (change_may_go s now.tick) code (kept_variables s.declared) remaining
-may_go s remaining now (real_or_string first text code) =
-    any_with_code (change_may_go s now.tick) code (kept_variables s.declared) remaining
+may_go s remaining now (scalar digit code) = change_may_go s remaining now.tick code
+may_go s remaining now (vector first digits code) = change_may_go s remaining now.tick code
+may_go s remaining now (real_or_string first text code) = is_gone s remaining code
 may_go s remaining now item = false
 
 -- whether these words of a `$var` declare the signal
@@ -75,17 +84,6 @@ abbrev pub declares : List (List ℕ) → SignalContents → Bool
 declares (kind ∷ size ∷ code ∷ words) n =
     bytes_eq kind n.kind && (number_of size == n.width) && pointwise bytes_eq words n.words
 declares words n = false
-
--- whether an item may come: a stamp, a scope or its end, the declaration of one of these signals,
--- or a change of a code that the amendment names
-abbrev pub may_come : Amendment → (signals : List SignalContents) → Item → Bool
-may_come a signals (stamp digits) = true
-may_come a signals (scope kind words) = true
-may_come a signals upscope = true
-may_come a signals (variable words) = list_any (declares words) signals
-may_come a signals (scalar digit code) = is_some (amended_code code a.codes)
-may_come a signals (vector first digits code) = is_some (amended_code code a.codes)
-may_come a signals item = false
 
 -- whether a code keeps its wave, if these signals are left of the kept variables of a file: a
 -- skipped variable has it, or one that is left with its wave
@@ -109,32 +107,36 @@ may_be_put_in s remaining signals item = false
 
 -- ---- the law
 
--- a text that the pieces of a file become after this state: each stands with its bytes, and lines
--- of items that may come stand before its words, or at the end; only one that may go is left out,
--- or has an item that may come in its place
-pub data BecomesText (go : ParseState → Item → Bool) (come : Item → Bool) (tail : List ℕ) :
-    ParseState → List Piece → List ℕ → Type 0 where
-  at_end : (s : ParseState) → (more : List Item) → IsTrue (list_all come more)
-      → BecomesText go come tail s []
-      (flat_map (λ i. 10 ∷ join_with_byte 32 (spelling i)) more ++ tail)
-  standing : (s : ParseState) → (p : Piece) → (ps : List Piece) → (text : List ℕ)
-      → (more : List Item) → IsTrue (list_all come more)
-      → BecomesText go come tail (state_after_item s p.item) ps text
-      → BecomesText go come tail s (p ∷ ps)
-      ((p.space ++ (flat_map item_line more ++ p.body)) ++ text)
-  going : (s : ParseState) → (p : Piece) → (ps : List Piece) → (text : List ℕ)
-      → IsTrue (go s p.item)
-      → BecomesText go come tail (state_after_item s p.item) ps text
-      → BecomesText go come tail s (p ∷ ps) text
-  exchanged : (s : ParseState) → (p : Piece) → (ps : List Piece) → (text : List ℕ)
-      → IsTrue (go s p.item)
-      → (other : Item) → IsTrue (come other)
-      → (body : List ℕ) → word_texts (words_of body) ≡ spelling other
-      → BecomesText go come tail (state_after_item s p.item) ps text
-      → BecomesText go come tail s (p ∷ ps) ((p.space ++ body) ++ text)
+-- whether the pieces of a file after a state may become these of a text after a tick: each stands
+-- with its bytes, at a tick that is the same after it in both, or may go; others come that may, and
+-- each takes the white space before the next piece, and leaves it a line feed
+unfoldable pub may_become : (go : ParseState → Item → Bool) → (come : Item → Bool) → ParseState
+    → (tick : ℕ) → (pieces made : List Piece) → Bool
+may_become go come now tick [] [] = true
+may_become go come now tick [] (q ∷ qs) = come q.item && bytes_eq q.space (10 ∷ [])
+    && may_become go come now (tick_after_item tick q.item) [] qs
+may_become go come now tick (p ∷ ps) [] =
+    go now p.item && may_become go come (state_after_item now p.item) tick ps []
+may_become go come now tick (p ∷ ps) (q ∷ qs) =
+    ((tick_after_item tick p.item == (state_after_item now p.item).tick)
+    && bytes_eq q.space p.space && bytes_eq q.body p.body
+    && may_become go come (state_after_item now p.item) (tick_after_item tick p.item) ps qs)
+    || ((go now p.item && may_become go come (state_after_item now p.item) tick ps (q ∷ qs))
+    || (come q.item && bytes_eq q.space p.space
+    && may_become go come now (tick_after_item tick q.item) (record p { space = 10 ∷ [] } ∷ ps) qs))
+
+-- in this text every item of a file of these pieces stands at its tick but those that may go, if
+-- these signals are left of its kept variables; only what may be put in for these signals comes
+pub record ItemsStand (limit : ℕ) (remaining : List (Option SignalContents))
+    (signals : List SignalContents) (pieces : List Piece) (tail text : List ℕ) : Type 0 where
+  pub made : List Piece
+  pub cut : IsCut text made tail
+  pub stand : IsTrue (may_become (may_go (state_of_pieces limit pieces) remaining)
+      (may_be_put_in (state_of_pieces limit pieces) remaining signals) (initial_state limit) 0
+      pieces made)
 
 -- read again, the amended file is the capture that was asked for, with as many variables skipped as
--- before; every item stands but those that may go, and only those come that may come
+-- before; what is not touched stands
 abbrev pub UntouchedItemsStand : Type 0
 UntouchedItemsStand = (limit : ℕ) (file : List ℕ) (pieces : List Piece) (tail : List ℕ)
     (s : ParseState) (remaining : List (Option SignalContents)) (derived : List SignalContents)
@@ -147,6 +149,4 @@ UntouchedItemsStand = (limit : ℕ) (file : List ℕ) (pieces : List Piece) (tai
     → text ≡ amended_text (amendment_for s remaining derived) true (initial_state limit) pieces tail
     → FileMeans limit text (record (meaning s) { signals = signals_left remaining ++ derived })
     (count_by is_skipped s.declared)
-    × BecomesText (may_go s remaining)
-    (may_come (amendment_for s remaining derived) (signals_left remaining ++ derived)) tail
-    (initial_state limit) pieces text
+    × ItemsStand limit remaining (signals_left remaining ++ derived) pieces tail text

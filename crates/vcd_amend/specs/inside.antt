@@ -4,3 +4,4 @@ pub mod CutTicks
 pub mod declarations
 pub mod coding
 pub mod amending
+pub mod LastChange

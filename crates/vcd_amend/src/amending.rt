@@ -7,7 +7,6 @@ ghost use Rattle.vcd_copy.specs.CopyEnds.{CopyFails};
 ghost use Rattle.vcd_copy.specs.Marks.{IsMarkedFile};
 ghost use Rattle.vcd_copy.specs.MarkText.{piece_of_mark};
 ghost use Rattle.vcd_text.specs.declared.reading.TheConstants.{LONG_FILE_LIMIT};
-ghost use Rattle.vcd_amend.specs.AmendedCopy.{IsAmended};
 ghost use Rattle.vcd_amend.specs.AmendedMeaning.{AreApart};
 ghost use Rattle.vcd_amend.specs.AmendmentContents.{amendment_contents};
 ghost use Rattle.vcd_amend.specs.RetimedCopy.{IsAmendedAfterCuts, is_cut_by};
@@ -31,8 +30,10 @@ use std::alloc::Global;
 use vcd_copy::{CopyError, Mark, Marked, copy};
 use vcd_core::{Sink, Source};
 
-/// Reads a capture file, and writes the amended file. The writer is flushed once, after the last
-/// byte. A file has at most `LONG_FILE_LIMIT` bytes and `limit` kept variables.
+/// Reads a capture file, and writes it as it is after cuts and then an amendment. Each cut is made
+/// on what the earlier ones leave. A mark, if there is one, stands after the declarations. The
+/// writer is flushed once, after the last byte. A file has at most `LONG_FILE_LIMIT` bytes and
+/// `limit` kept variables.
 ///
 /// The file is read as `copy` reads it: the grammar, the first fault and its line are the same. At
 /// a fault of the file, what the writer took is of no use. At `WriteFault` the writer has failed,
@@ -40,70 +41,9 @@ use vcd_core::{Sink, Source};
 ///
 /// The time grows with the file, and with the changes of the new waves, which are sorted. It takes
 /// 16 bytes for each due change, some bytes for each variable and code, and what `copy` takes, but
-/// nothing for the changes of the file.
-pub fn amend<R: Source, W: Sink>(
-    alloc: Global,
-    reader: &mut R,
-    limit: u32,
-    amendment: &Amendment,
-    writer: &mut W,
-) -> Result<(), CopyError>
-    requires reader_ready { R.has_failed reader.old ≡ false }
-    requires writer_ready { W.has_failed writer.old ≡ false }
-    requires apart { AreApart (amendment_contents amendment.now).codes }
-    ensures amended { OnOk result (IfSome (R.coming reader.old) (λ file.
-        (length file ≤ LONG_FILE_LIMIT)
-        × (text : List ℕ) × IsAmended limit (amendment_contents amendment.now) file text
-        × Appends (W.taken writer.old) (W.taken writer.new) text)) }
-    ensures not_failed { OnOk result (W.has_failed writer.new ≡ false) }
-    ensures flushed { OnOk result (W.is_flushed writer.new ≡ true) }
-    ensures ended { OnOk result (IsAtEnd (R.coming reader.new)) }
-    ensures reader_not_failed { OnOk result (R.has_failed reader.new ≡ false) }
-    ensures taken { (text : List ℕ) × Appends (W.taken writer.old) (W.taken writer.new) text }
-    ensures fails { IfErr result (CopyFails limit LONG_FILE_LIMIT (R.coming reader.old)
-        (R.coming reader.new) (R.has_failed reader.new) (W.taken writer.old) (W.taken writer.new)
-        (W.has_failed writer.new)) }
-{
-    let mut amender = FileAmender::new(alloc, amendment)?;
-    copy(alloc, reader, limit, &mut amender, writer)
-}
-
-/// Reads a capture file, and writes it as it is after cuts and then an amendment. Each cut is made
-/// on what the earlier ones leave. Without a cut this is [`amend`].
-///
-/// Of the changes at ticks that are cut out the last one of each code is held, and takes memory
-/// until the first tick that is left is past. A stamp takes a step for each cut where a range of
-/// cut ticks begins or ends before it, and else one step.
-pub fn amend_after_cuts<R: Source, W: Sink>(
-    alloc: Global,
-    reader: &mut R,
-    limit: u32,
-    cuts: &[CutTicks],
-    amendment: &Amendment,
-    writer: &mut W,
-) -> Result<(), CopyError>
-    requires reader_ready { R.has_failed reader.old ≡ false }
-    requires writer_ready { W.has_failed writer.old ≡ false }
-    requires apart { AreApart (amendment_contents amendment.now).codes }
-    requires ordered { All (λ c. c.from ≤ c.to) cuts.now }
-    ensures amended { OnOk result (IfSome (R.coming reader.old) (λ file.
-        (length file ≤ LONG_FILE_LIMIT)
-        × (text : List ℕ) × IsAmendedAfterCuts limit (is_cut_by cuts.now)
-        (amendment_contents amendment.now) file text
-        × Appends (W.taken writer.old) (W.taken writer.new) text)) }
-    ensures not_failed { OnOk result (W.has_failed writer.new ≡ false) }
-    ensures flushed { OnOk result (W.is_flushed writer.new ≡ true) }
-    ensures ended { OnOk result (IsAtEnd (R.coming reader.new)) }
-    ensures reader_not_failed { OnOk result (R.has_failed reader.new ≡ false) }
-    ensures taken { (text : List ℕ) × Appends (W.taken writer.old) (W.taken writer.new) text }
-    ensures fails { IfErr result (CopyFails limit LONG_FILE_LIMIT (R.coming reader.old)
-        (R.coming reader.new) (R.has_failed reader.new) (W.taken writer.old) (W.taken writer.new)
-        (W.has_failed writer.new)) }
-{
-    amend_marked(alloc, reader, limit, cuts, amendment, None, writer)
-}
-
-/// The same on the file with a mark in it, if there is one: the copy has it after the declarations.
+/// nothing for the changes of the file. Of those at ticks that are cut out the last one of each
+/// code is held, and takes memory until the first tick that is left is past. A stamp takes a step
+/// for each cut where a range of cut ticks begins or ends before it, and else one step.
 pub fn amend_marked<R: Source, W: Sink>(
     alloc: Global,
     reader: &mut R,

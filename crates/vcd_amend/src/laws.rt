@@ -1,32 +1,29 @@
 //! Laws about amended files: each function has an empty body, and its contract is the law.
 
 ghost use Rattle.vcd_amend.specs.AmendedMeaning.{AmendedFileMeansAmendedCapture};
-ghost use Rattle.vcd_amend.specs.AmendedMeaning.{SkippedVariablesStand};
 ghost use Rattle.vcd_amend.specs.AmendedText.{AmendedTextMeansAmendedCapture};
 ghost use Rattle.vcd_amend.specs.AmendedCopy.{CopyIsAmendedText};
 ghost use Rattle.vcd_amend.specs.RetimedCopy.{RetimedCopyIsCopyOfRetimed};
 ghost use Rattle.vcd_amend.specs.CodedAmendment.{CodedAmendmentGivesCapture};
 ghost use Rattle.vcd_amend.specs.FreshCodes.{FreshCodesAreFresh, FreshCodesAreInOrder};
-ghost use Rattle.vcd_amend.specs.GivenCodes.{GivenCodesFit, AmendedTextMeansOtherCapture};
+ghost use Rattle.vcd_amend.specs.GivenCodes.{GivenCodesFit};
 ghost use Rattle.vcd_amend.specs.WhatStands.{UntouchedItemsStand};
 ghost use Rattle.vcd_amend.specs.RetimedLaws.{RetimedFileMeansRetimedCapture, CutsLeaveTicks};
-ghost use Rattle.vcd_amend.specs.RetimedLaws.{LastChangesStand, ChangesStandInOrder, StampsStand};
-ghost use Rattle.vcd_amend.specs.RetimedLaws.{OtherPiecesStand, RetimedTextMeansRetimedCapture};
+ghost use Rattle.vcd_amend.specs.RetimedLaws.{PiecesAfterCutsAreRetimed};
+ghost use Rattle.vcd_amend.specs.RetimedLaws.{RetimedTextMeansRetimedCapture};
 
 /// If an amendment fits an accepted file, the amended file is accepted, and means the amended
-/// capture. As many variables are skipped as before, and they stand with their changes.
+/// capture. As many variables are skipped as before.
 pub fn amended_file_is_read_again()
     ensures items { AmendedFileMeansAmendedCapture }
-    ensures skipped { SkippedVariablesStand }
     ensures text { AmendedTextMeansAmendedCapture }
 {}
 
-/// A file that is amended for another capture means that capture: if its signals have codes that
-/// fit, and so with the codes that are given to them.
+/// If the signals of another capture have codes that fit a file, the amendment by these gives that
+/// capture; and the codes that are given to them fit.
 pub fn other_capture_is_read_again()
     ensures coded { CodedAmendmentGivesCapture }
     ensures fits { GivenCodesFit }
-    ensures text { AmendedTextMeansOtherCapture }
 {}
 
 /// A file that is amended for another capture means it, and every item stands in it with its bytes
@@ -54,13 +51,11 @@ pub fn retimed_copy_is_copy_of_retimed()
 {}
 
 /// The pieces of a file after cuts are cut from its bytes and accepted, and mean the capture after
-/// the cuts. At each tick that is left the last change of each code stands, with its bytes.
+/// the cuts. All stands in them but stamps, and at ticks that are cut out the changes of events and
+/// the earlier ones of a code: each with its bytes, and at its new tick if its tick is left.
 pub fn retimed_file_is_meant()
     ensures pieces { RetimedFileMeansRetimedCapture }
     ensures bytes { RetimedTextMeansRetimedCapture }
     ensures ticks { CutsLeaveTicks }
-    ensures changes { LastChangesStand }
-    ensures order { ChangesStandInOrder }
-    ensures stamps { StampsStand }
-    ensures others { OtherPiecesStand }
+    ensures retimed { PiecesAfterCutsAreRetimed }
 {}

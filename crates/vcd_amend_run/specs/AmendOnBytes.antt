@@ -4,9 +4,9 @@ use Rattle.std.specs.Prelude.{◌≡◌, ◌<◌, ◌≤◌, ◌⊎◌, ℕ, zer
 use Rattle.std.specs.Prelude.{Option, Result, Ok, Err}
 use Rattle.std.specs.List.{concat}
 use Rattle.vcd_core.specs.declared.capture.TheConstants.{SIGNAL_LIMIT}
-use Rattle.vcd_core.specs.Contents.{Contents, SignalContents}
+use Rattle.vcd_core.specs.Contents.{Contents}
 use Rattle.vcd_text.specs.Words.{words_of}
-use Rattle.vcd_text.specs.Grammar.{ParseState, initial_state, Accepts}
+use Rattle.vcd_text.specs.Grammar.{ParseState, Accepts}
 use Rattle.vcd_text.specs.Meaning.{FileMeans}
 use Rattle.vcd_text.specs.Faults.{IsFileFault, IsPrefixAnswer}
 use Rattle.vcd_copy.specs.Pieces.{Piece, IsCut, state_of_pieces}
@@ -22,30 +22,31 @@ use Rattle.vcd_script.specs.Run.{RunOutcome, IsRun}
 use Rattle.vcd_hollow.specs.HollowRun.{last_edits, last_capture}
 use Rattle.vcd_amend_run.specs.declared.running.AmendRunError.{AmendRunError}
 use Rattle.vcd_amend_run.specs.declared.running.AmendRunError.TheVariants.{Run, NameOfSkipped}
+use Rattle.vcd_amend_run.specs.declared.running.AmendRunError.TheVariants.{LineRefused}
 use Rattle.vcd_amend_run.specs.declared.running.AmendRunError.TheVariants.{CaptureChanged}
 use Rattle.vcd_amend_run.specs.declared.on_bytes.AmendRefusal.{AmendRefusal}
-use Rattle.vcd_amend.specs.WhatStands.{may_go, may_be_put_in, BecomesText}
-use Rattle.vcd_amend_run.specs.AmendedRun.{signals_remaining}
+use Rattle.vcd_amend.specs.WhatStands.{ItemsStand}
+use Rattle.vcd_amend.specs.RetimedLaws.{AreRetimed}
+use Rattle.vcd_amend_run.specs.EditedText.{is_cut_out_by, remaining_of_run}
 use Rattle.vcd_amend_run.specs.AmendRunEnds.{TakesSkippedName}
 
 -- ---- the file after a run
 
 -- the text is a file after lines on the capture that it means: read again, it means the last
--- capture, with as many variables skipped; if no cut is in force, every item of the file stands but
--- those that may go
+-- capture, with as many variables skipped; what is not touched of the file stands after the cuts in
+-- force, and of that again after the other edits
 pub record IsEditedFile (file : List ℕ) (c : Contents) (skipped depth : ℕ) (lines : List (List ℕ))
     (text : List ℕ) : Type 0 where
   pub read_again : FileMeans SIGNAL_LIMIT text (last_capture c skipped depth lines) skipped
   pub pieces : List Piece
   pub tail : List ℕ
   pub cut : IsCut file pieces tail
-  pub stands : cuts (last_edits c skipped depth lines) ≡ [] →
-      let s : ParseState = state_of_pieces SIGNAL_LIMIT pieces in
-      let last : Contents = last_capture c skipped depth lines in
-      let remaining : List (Option SignalContents) =
-      signals_remaining (length c.signals) (last_edits c skipped depth lines) last in
-      BecomesText (may_go s remaining) (may_be_put_in s remaining last.signals) tail
-      (initial_state SIGNAL_LIMIT) pieces text
+  pub after : List Piece
+  pub retimed : AreRetimed (is_cut_out_by (last_edits c skipped depth lines))
+      (state_of_pieces SIGNAL_LIMIT pieces) pieces after
+  pub uncut : cuts (last_edits c skipped depth lines) ≡ [] → after ≡ pieces
+  pub stands : ItemsStand SIGNAL_LIMIT (remaining_of_run c skipped depth lines)
+      (last_capture c skipped depth lines).signals after tail text
 
 -- ---- the headline
 
@@ -84,6 +85,7 @@ AmendFails file script depth replies (Run (run_errors.Write e)) =
 AmendFails file script depth replies NameOfSkipped = (replies ≡ [])
     × (s : ParseState) × Accepts SIGNAL_LIMIT (words_of file) s
     × TakesSkippedName depth (script_lines script) s
+AmendFails file script depth replies LineRefused = ⊥
 AmendFails file script depth replies CaptureChanged = ⊥
 
 -- what amending the bytes of a file by a script gives: the replies of the script's run on what the

@@ -23,6 +23,7 @@ use Rattle.vcd_hollow.specs.HollowRun.{last_edits, last_capture}
 use Rattle.vcd_amend_run.specs.declared.running.Passes.{Passes}
 use Rattle.vcd_amend_run.specs.declared.running.AmendRunError.{AmendRunError}
 use Rattle.vcd_amend_run.specs.declared.running.AmendRunError.TheVariants.{Run, NameOfSkipped}
+use Rattle.vcd_amend_run.specs.declared.running.AmendRunError.TheVariants.{LineRefused}
 use Rattle.vcd_amend_run.specs.declared.running.AmendRunError.TheVariants.{CaptureChanged}
 use Rattle.vcd_amend_run.specs.NewNames.{takes_skipped_name}
 use Rattle.vcd_amend_run.specs.AmendRun.{IsAmendRun}
@@ -130,6 +131,8 @@ module _ (depth : ℕ) (passes : PassEnds) (script replies : DeviceEnd) (output 
         × ((file lines : List ℕ) → AllShow passes file → script.before ≡ Some lines
         → (s : ParseState) × Accepts SIGNAL_LIMIT (words_of file) s
         × TakesSkippedName depth (script_lines lines) s)
+    -- only a run that is to write all or nothing ends so (`MarkedRunEnds`)
+    AmendRunEnds (Err LineRefused) = ⊥
     -- the passes do not show one file: no byte of the output is written
     AmendRunEnds (Err CaptureChanged) = IfSome output IsUntouched
         × ((file : List ℕ) → AllShow passes file → ⊥)

@@ -1,6 +1,6 @@
 -- What a run leaves of the signals of a file, and what it derives. The project's own.
-use Rattle.std.specs.Prelude.{◌≡◌, ℕ, nat_eq, Bool, if◌then◌else◌, List, ◌∷◌, ◌++◌, map}
-use Rattle.std.specs.Prelude.{drop, length, count_by, All, Option, Some, None, option_map}
+use Rattle.std.specs.Prelude.{◌≡◌, ℕ, Bool, List, ◌++◌, map}
+use Rattle.std.specs.Prelude.{drop, length, count_by, All, Option, option_map}
 use Rattle.std.specs.List.{range_with_len}
 use Rattle.vcd_core.specs.Contents.{Contents, SignalContents}
 use Rattle.vcd_core.specs.SignalOrigins.{signal_from}

@@ -10,7 +10,7 @@ use Rattle.vcd_copy.specs.Pieces.{Piece, IsCut, state_of_pieces}
 use Rattle.vcd_amend.specs.Amendment.{Amendment}
 use Rattle.vcd_amend.specs.AmendedText.{amended_text}
 use Rattle.vcd_amend.specs.GivenCodes.{amendment_for}
-use Rattle.vcd_amend.specs.WhatStands.{may_go, may_come, BecomesText}
+use Rattle.vcd_amend.specs.WhatStands.{ItemsStand}
 use Rattle.vcd_amend.specs.Retimed.{new_tick, AreOldTicks, retimed_contents}
 use Rattle.vcd_amend.specs.RetimedLaws.{is_in_cut, is_in_either, pieces_after}
 use Rattle.vcd_edit.specs.declared.edit.Edit.{Edit}
@@ -84,20 +84,16 @@ AcceptedFileHasPieces =
     → (pieces : List Piece) × (tail : List ℕ) × PiecesMean file pieces tail c skipped
 
 -- the text of an accepted file after a run means the last capture, with as many variables skipped;
--- every item of the file after the cuts stands but those that may go, and only those come that may
--- come
+-- what is not touched of the file after the cuts stands
 abbrev pub EditedTextMeansLastCapture : Type 0
 EditedTextMeansLastCapture =
     (file : List ℕ) (pieces : List Piece) (tail : List ℕ) (c : Contents) (skipped depth : ℕ)
     (lines : List (List ℕ)) → PiecesMean file pieces tail c skipped →
-    let after : List Piece = pieces_after_cuts c skipped depth lines pieces in
     let text : List ℕ = edited_text c skipped depth lines pieces tail in
     FileMeans SIGNAL_LIMIT text (last_capture c skipped depth lines) skipped
-    × BecomesText
-    (may_go (state_of_pieces SIGNAL_LIMIT after) (remaining_of_run c skipped depth lines))
-    (may_come (amendment_of_run c skipped depth lines pieces)
-    (last_capture c skipped depth lines).signals)
-    tail (initial_state SIGNAL_LIMIT) after text
+    × ItemsStand SIGNAL_LIMIT (remaining_of_run c skipped depth lines)
+    (last_capture c skipped depth lines).signals (pieces_after_cuts c skipped depth lines pieces)
+    tail text
 
 -- without a cut in force all pieces stay
 abbrev pub NoCutLeavesPieces : Type 0

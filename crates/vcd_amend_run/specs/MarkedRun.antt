@@ -1,9 +1,9 @@
 -- What amending a file by a script gives if the file is marked: the project's own.
-use Rattle.std.specs.Prelude.{◌≡◌, ℕ, false, List, Option, Some, None, Result, Ok}
+use Rattle.std.specs.Prelude.{◌≡◌, ◌≢◌, ℕ, false, true, List, Option, Some, None, Result, Ok, Err}
 use Rattle.std.specs.List.{concat}
 use Rattle.vcd_core.specs.declared.capture.TheConstants.{SIGNAL_LIMIT}
 use Rattle.vcd_core.specs.Contents.{Contents}
-use Rattle.vcd_core.specs.Devices.{DeviceEnd, HasText}
+use Rattle.vcd_core.specs.Devices.{DeviceEnd, HasText, IsUntouched}
 use Rattle.vcd_text.specs.Meaning.{FileMeans}
 use Rattle.vcd_copy.specs.Pieces.{Piece}
 use Rattle.vcd_copy.specs.Marks.{IsMarkedFile}
@@ -15,7 +15,9 @@ use Rattle.vcd_script.specs.Run.{RunOutcome}
 use Rattle.vcd_amend_run.specs.declared.running.AmendRunError.{AmendRunError}
 use Rattle.vcd_amend_run.specs.AmendRun.{IsAmendRun}
 use Rattle.vcd_amend_run.specs.AmendRunEnds.{PassEnds, AllShow, IsShortFile, CanBeWritten}
-use Rattle.vcd_amend_run.specs.AmendRunEnds.{AmendRunEnds}
+use Rattle.vcd_amend_run.specs.AmendRunEnds.{AmendRunEnds, ForAmendRun}
+use Rattle.vcd_amend_run.specs.declared.running.AmendRunError.TheVariants.{LineRefused}
+use Rattle.vcd_amend_run.specs.declared.running.RunOptions.{RunOptions}
 use Rattle.vcd_amend_run.specs.EditsInForce.{lines_in_force}
 
 -- the mark with these edits, if one is asked for
@@ -40,26 +42,34 @@ pub record IsMarkedRun (head : Option MarkHead) (file script : List ℕ) (depth 
       (mark_of_run head contents skipped depth (script_lines script)) file marked
   pub run : IsAmendRun marked script depth written
 
--- the head of a mark, the ends of the passes and of the script, and that of the writer of the
+-- what is asked of a run, the ends of the passes and of the script, and that of the writer of the
 -- replies
-module _ (depth : ℕ) (head : Option MarkHead) (passes : PassEnds) (script replies : DeviceEnd)
-  where
-    -- if every pass shows one file, and the script its bytes: holds of what is written with a mark
-    abbrev pub ForMarkedRun : (RunOutcome → Type 0) → Type 0
-    ForMarkedRun property = (file lines : List ℕ) → AllShow passes file
-        → script.before ≡ Some lines
-        → (written : RunOutcome) × IsMarkedRun head file lines depth written × property written
+module _ (o : RunOptions) (passes : PassEnds) (script replies : DeviceEnd) where
+  -- if every pass shows one file, and the script its bytes: holds of what is written with a mark
+  abbrev pub ForMarkedRun : (RunOutcome → Type 0) → Type 0
+  ForMarkedRun property = (file lines : List ℕ) → AllShow passes file → script.before ≡ Some lines
+      → (written : RunOutcome) × IsMarkedRun o.mark file lines o.depth written × property written
 
-    -- all replies are written, and the amended file with the mark, which can be written
-    pub record IsWrittenMarked (out : DeviceEnd) (summary : Summary) : Type 0 where
-      pub replies_ready : replies.has_failed ≡ false
-      pub out_ready : out.has_failed ≡ false
-      pub possible : CanBeWritten depth passes script replies (Some out)
-      pub short : IsShortFile passes
-      pub run : ForMarkedRun (λ written. HasText replies (concat written.replies)
-          × HasText out written.output × (summary.refused ≡ written.refused))
+  -- all replies are written, and the amended file with the mark, which can be written
+  pub record IsWrittenMarked (out : DeviceEnd) (summary : Summary) : Type 0 where
+    pub replies_ready : replies.has_failed ≡ false
+    pub out_ready : out.has_failed ≡ false
+    pub possible : CanBeWritten o.depth passes script replies (Some out)
+    pub short : IsShortFile passes
+    pub none_refused : o.is_all_or_nothing ≡ true → summary.refused ≡ 0
+    pub run : ForMarkedRun (λ written. HasText replies (concat written.replies)
+        × HasText out written.output × (summary.refused ≡ written.refused))
 
-    -- how amending a file with a mark ends: as it ends without, but for the mark in the output
-    abbrev pub MarkedRunEnds : (output : Option DeviceEnd) → Result Summary AmendRunError → Type 0
-    MarkedRunEnds (Some out) (Ok summary) = IsWrittenMarked out summary
-    MarkedRunEnds output result = AmendRunEnds depth passes script replies output result
+  -- all replies are written, with a refused line among them, and so nothing else
+  pub record IsNothingWritten (out : DeviceEnd) : Type 0 where
+    pub asked : o.is_all_or_nothing ≡ true
+    pub untouched : IsUntouched out
+    pub run : ForAmendRun o.depth passes script replies (Some out)
+        (λ written. HasText replies (concat written.replies) × (written.refused ≢ 0))
+
+  -- how amending a file ends: as it ends without options, but for the mark in the output, and if a
+  -- line is refused
+  abbrev pub MarkedRunEnds : (output : Option DeviceEnd) → Result Summary AmendRunError → Type 0
+  MarkedRunEnds (Some out) (Ok summary) = IsWrittenMarked out summary
+  MarkedRunEnds (Some out) (Err LineRefused) = IsNothingWritten out
+  MarkedRunEnds output result = AmendRunEnds o.depth passes script replies output result

@@ -1,6 +1,5 @@
 -- What there is to say of an output beyond the replies: of variables that share a code, which
--- differ or are removed alone, which are removed, and which events cuts leave out. The project's
--- own.
+-- differ or are removed alone, and which events cuts leave out. The project's own.
 use Rattle.std.specs.Prelude.{◌≡◌, ℕ, Bool, true, false, not, ◌-◌, ◌==◌, ◌&&◌, List, []}
 use Rattle.std.specs.Prelude.{if◌then◌else◌, ◌⊎◌, Option, Some, None}
 use Rattle.std.specs.Prelude.{◌∷◌, ◌++◌, map, take, length, is_some, bytes_eq, codes, All}
@@ -52,19 +51,6 @@ removed_apart a ds =
     flat_map_along (λ before d. if is_removed_apart (amended_variables a ds) (fate_of a before d) d
     then d ∷ [] else []) [] ds
 
--- ---- removed variables
-
--- whether a variable is removed by its fate
-abbrev pub is_removed_by : Fate → VariableDeclaration → Bool
-is_removed_by is_removed d = true
-is_removed_by stays d = false
-is_removed_by (is_changed words code) d = false
-
--- the variables that are removed
-abbrev pub removed_variables : Amendment → List VariableDeclaration → List VariableDeclaration
-removed_variables a ds =
-    flat_map_along (λ before d. if is_removed_by (fate_of a before d) d then d ∷ [] else []) [] ds
-
 -- ---- events
 
 -- whether a variable is an event
@@ -101,23 +87,10 @@ abbrev pub removed_remark : (names : List (List ℕ)) → List ℕ
 removed_remark names =
     names_remark (codes "removed, but another variable of the same code stays") names
 
--- the remark on variables that are removed: what is no declaration and no change of theirs stays
-abbrev pub traces_remark : (names : List (List ℕ)) → List ℕ
-traces_remark names = names_remark
-    (codes "removed, but their time stamps stay, and scopes, comments, marks, namesakes and copies"
-    ++ codes " under other codes may tell of them") names
-
--- the line on what of the ticks that are cut is no stamp and no change, and stays, with a line feed
--- (10) at its end
-abbrev pub commands_at_cuts_remark : List ℕ
-commands_at_cuts_remark =
-    codes "output: comments, dump words and other commands at the ticks that are cut, if any, stay"
-    ++ 10 ∷ []
-
 -- the remark on events that cuts leave out
 abbrev pub events_remark : (names : List (List ℕ)) → List ℕ
 events_remark names =
-    names_remark (codes "events at the ticks that are cut, if any, are left out") names
+    names_remark (codes "events at the ticks that are cut are left out") names
 
 -- ---- all remarks
 
@@ -125,8 +98,6 @@ events_remark names =
 abbrev pub output_remarks : Amendment → List VariableDeclaration → (is_cut : Bool) → List ℕ
 output_remarks a ds is_cut = apart_remark (map declared_name (left_apart a ds))
     ++ removed_remark (map declared_name (removed_apart a ds))
-    ++ traces_remark (map declared_name (removed_variables a ds))
-    ++ (if is_cut then commands_at_cuts_remark else [])
     ++ (if is_cut then events_remark (map declared_name (events_left_out ds)) else [])
 
 -- the remarks on the output of a run of lines on what a file of these pieces means

@@ -41,4 +41,4 @@ pub use new_names::takes_skipped_name;
 pub use on_bytes::{AmendRefusal, amend_on_bytes};
 pub use outlining::{Outline, read_outline};
 pub use remarks::{append_names_remark, append_removed_remark, output_remarks};
-pub use running::{AmendRunError, Passes, amend_run};
+pub use running::{AmendRunError, Passes, RunOptions, amend_run};

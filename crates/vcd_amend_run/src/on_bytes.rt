@@ -6,7 +6,7 @@ ghost use Rattle.vcd_amend_run.specs.AmendRun.{IsAmendRun};
 ghost use Rattle.vcd_amend_run.specs.AmendRunEnds.{AreReady, pass_ends, AllShow};
 ghost use Rattle.vcd_amend_run.specs.AmendOnBytes.{AmendGives};
 
-use crate::running::{AmendRunError, Passes, amend_run};
+use crate::running::{AmendRunError, Passes, RunOptions, amend_run};
 use std::alloc::Global;
 use vcd_amend::Nowhere;
 use vcd_core::{FromBytes, Source, ToBytes};
@@ -45,15 +45,19 @@ pub fn amend_on_bytes(
     let mut replies = ToBytes::new(alloc);
     let mut output = ToBytes::new(alloc);
     let mut remarks = Nowhere { is_flushed: false };
+    let options = RunOptions {
+        depth,
+        mark: None,
+        is_all_or_nothing: false,
+    };
     let ending = amend_run(
         alloc,
         &mut passes,
         &mut FromBytes::new(script),
         &mut replies,
         &mut remarks,
-        None,
         Some(&mut output),
-        depth,
+        &options,
     );
     let replies = replies.into_bytes();
     match ending {

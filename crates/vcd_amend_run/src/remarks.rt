@@ -18,14 +18,14 @@ use events::event_names;
 use fated_variables::fated_variables;
 pub use names::append_names_remark;
 use std::alloc::Global;
-use variables::{left_apart_names, removed_apart_names, removed_names, used_codes};
+use variables::{left_apart_names, removed_apart_names, used_codes};
 use vcd_amend::{Amendment, CutTicks, DeclaredVariable};
 use vcd_core::{NoMemory, Word};
 
 /// The remarks on the output of a run, by the variables that the file declares, what is done to it,
 /// and the cuts in force: which variables of one code differ from now on, which are removed, but
-/// another variable of the same code stays, which are removed at all, and what the cuts leave, and
-/// which events they leave out. Each is a line, with at most five names.
+/// another variable of the same code stays, and which events cuts leave out. Each is a line, with
+/// at most five names.
 ///
 /// It goes over the variables at most twice for each kind of remark, and looks up a code for each.
 /// It holds a target for each code, a fate for each variable, and the names of the remarks.
@@ -41,12 +41,11 @@ pub fn output_remarks(
 {
     let mut text = Vec::new(alloc);
     append_code_remarks(&mut text, alloc, declared, amendment)?;
-    append_commands_at_cuts(&mut text, cuts)?;
     append_cut_remark(&mut text, alloc, declared, cuts)?;
     Ok(text)
 }
 
-/// Appends the remarks on variables that share a code, and on those that are removed.
+/// Appends the remarks on variables that share a code.
 fn append_code_remarks(
     text: &mut Vec<u8>,
     alloc: Global,
@@ -57,19 +56,15 @@ fn append_code_remarks(
         ++ spec.apart_remark (map declared_name
         (spec.left_apart (amendment_contents amendment.now) (declarations_of declared.now)))
         ++ spec.removed_remark (map declared_name
-        (spec.removed_apart (amendment_contents amendment.now) (declarations_of declared.now)))
-        ++ spec.traces_remark (map declared_name
-        (spec.removed_variables (amendment_contents amendment.now)
+        (spec.removed_apart (amendment_contents amendment.now)
         (declarations_of declared.now)))) }
 {
     let fated = fated_variables(alloc, declared, amendment)?;
     let differing = left_apart_names(alloc, fated.as_slice())?;
     let used = used_codes(alloc, fated.as_slice(), amendment.added.as_slice())?;
     let apart = removed_apart_names(alloc, fated.as_slice(), &used)?;
-    let removed = removed_names(alloc, fated.as_slice())?;
     append_apart_remark(text, differing.as_slice())?;
-    append_removed_remark(text, apart.as_slice())?;
-    append_traces_remark(text, removed.as_slice())
+    append_removed_remark(text, apart.as_slice())
 }
 
 /// Appends the remark on events, if there are cuts.
@@ -89,24 +84,9 @@ fn append_cut_remark(
     let events = event_names(alloc, declared)?;
     append_names_remark(
         text,
-        b"events at the ticks that are cut, if any, are left out",
+        b"events at the ticks that are cut are left out",
         events.as_slice(),
     )
-}
-
-/// Appends the line on comments and the like at the ticks that are cut, if there are cuts.
-fn append_commands_at_cuts(text: &mut Vec<u8>, cuts: &[CutTicks]) -> Result<(), NoMemory>
-    ensures { OnOk result (text.new.items ≡ text.old.items
-        ++ (if not (length cuts.now == 0) then spec.commands_at_cuts_remark else [])) }
-{
-    if cuts.is_empty() {
-        return Ok(());
-    }
-    text.extend_from_slice(
-        b"output: comments, dump words and other commands at the ticks that are cut, if any, \
-        stay\n",
-    )?;
-    Ok(())
 }
 
 /// Appends the remark on variables of these names, which share codes, but differ from now on.
@@ -129,18 +109,6 @@ pub fn append_removed_remark(text: &mut Vec<u8>, names: &[Word]) -> Result<(), N
     append_names_remark(
         text,
         b"removed, but another variable of the same code stays",
-        names,
-    )
-}
-
-/// Appends the remark on variables of these names, which are removed.
-fn append_traces_remark(text: &mut Vec<u8>, names: &[Word]) -> Result<(), NoMemory>
-    ensures { OnOk result (text.new.items ≡ text.old.items ++ spec.traces_remark names.now) }
-{
-    append_names_remark(
-        text,
-        b"removed, but their time stamps stay, and scopes, comments, marks, namesakes and copies \
-        under other codes may tell of them",
         names,
     )
 }

@@ -1,6 +1,6 @@
 //! A capture file amended by a script, in four passes over the file.
 
-ghost use Rattle.std.specs.Prelude.{◌≡◌, ◌≤◌, false, true, ℕ, List, Some, length, OnOk, IfOk};
+ghost use Rattle.std.specs.Prelude.{◌≡◌, ◌≢◌, ◌≤◌, false, true, ℕ, List, Some, length, OnOk, IfOk};
 ghost use Rattle.std.specs.Prelude.{IfErr, IfSome, All, ◌==◌, not};
 ghost use Rattle.std.specs.Option.{ForSome};
 ghost use Rattle.std.specs.Io.KnownBytes.{Appends};
@@ -55,7 +55,7 @@ use vcd_amend::{
 use vcd_copy::{CopyError, Mark, MarkHead};
 use vcd_core::{Capture, NoMemory, SIGNAL_LIMIT, Sink, Source, Word, write_and_flush};
 use vcd_journal::{DEPTH_LIMIT, Session};
-use vcd_remarks::remark_on_lines;
+use vcd_remarks::run_remarked_lines;
 use vcd_script::{RunError, Summary, read_script, run_lines};
 use vcd_text::ReadError;
 
@@ -80,8 +80,21 @@ pub enum AmendRunError {
     /// A signal that the script has renamed or derived has the full name of a skipped variable,
     /// which stays in the file.
     NameOfSkipped,
+    /// A line was refused, and then nothing is to be written. All replies were.
+    LineRefused,
     /// The passes over the file did not find the same one.
     CaptureChanged,
+}
+
+/// What is asked of a run beside its devices.
+#[derive(Clone, Copy)]
+pub struct RunOptions<'a> {
+    /// How many edits are held for undo and redo, from 1 to `DEPTH_LIMIT`.
+    pub depth: u64,
+    /// The head of the mark, if the output is to have one.
+    pub mark: Option<MarkHead<'a>>,
+    /// Whether nothing is to be written if a line is refused.
+    pub is_all_or_nothing: bool,
 }
 
 /// What is known before the first reply.
@@ -169,44 +182,44 @@ impl From<CopyError> for AmendRunError {
 /// script asks for, and then for the copy. Only these changes are held, and while a signal is
 /// edited its changes before and after.
 ///
-/// Before the first reply it writes the remarks on the lines. For these it carries the lines out
-/// once more, without replies. Before the copy, or if edits are in force without an output, it
-/// writes the remarks on the output. If either runs out of memory, or the writer of the remarks
-/// fails, the run goes on without the other remarks.
+/// Before the reply to a line it writes the remarks on it, and before the copy, or if edits are in
+/// force without an output, those on the output. If either runs out of memory, or the writer of the
+/// remarks fails, the run goes on without the other remarks. A writer that has failed costs
+/// nothing.
 pub fn amend_run<R: Source, S: Source, P: Sink, Q: Sink, W: Sink>(
     alloc: Global,
     passes: &mut Passes<R>,
     script_reader: &mut S,
     replies: &mut P,
     remarks: &mut Q,
-    mark: Option<MarkHead<'_>>,
     out: Option<&mut W>,
-    depth: u64,
+    options: &RunOptions<'_>,
 ) -> Result<Summary, AmendRunError>
     requires passes_ready { AreReady R.has_failed passes.old }
     requires script_ready { S.has_failed script_reader.old ≡ false }
     requires replies_ready { P.has_failed replies.old ≡ false }
-    requires remarks_ready { Q.has_failed remarks.old ≡ false }
     requires out_ready { ForSome out (λ w. W.has_failed w.now ≡ false) }
-    requires depth_least { 1 ≤ depth }
-    requires depth_most { depth ≤ DEPTH_LIMIT }
-    ensures ends { ForOutput W.taken W.has_failed out.entry out.exit (λ output. MarkedRunEnds depth
-        mark.entry (pass_ends R.coming R.has_failed passes.old passes.new)
+    requires depth_least { 1 ≤ options.now.depth }
+    requires depth_most { options.now.depth ≤ DEPTH_LIMIT }
+    ensures ends { ForOutput W.taken W.has_failed out.entry out.exit (λ output. MarkedRunEnds
+        options.now (pass_ends R.coming R.has_failed passes.old passes.new)
         (device_end S.coming S.has_failed script_reader.old script_reader.new)
         (device_end P.taken P.has_failed replies.old replies.new) output result) }
     ensures output_flushed { OnOk result (IsOutputFlushed W.is_flushed out.entry out.exit) }
     // whatever the result
-    ensures remarked { TakesRemarks depth
+    ensures remarked { TakesRemarks options.now.depth
         (pass_ends R.coming R.has_failed passes.old passes.new)
         (device_end S.coming S.has_failed script_reader.old script_reader.new)
         (device_end Q.taken Q.has_failed remarks.old remarks.new) }
 {
+    let depth = options.depth;
     // matched here: no clause can open an `Option<&mut W>` that comes back from a call
     match out {
         Some(out) => {
             let edited = run_script(alloc, passes, script_reader, replies, remarks, depth, true)?;
             let refused = edited.refused;
-            copy_amended(alloc, &mut passes.copy, edited, mark, remarks, out)?;
+            refuse_line(options.is_all_or_nothing, refused)?;
+            copy_amended(alloc, &mut passes.copy, edited, options.mark, remarks, out)?;
             Ok(Summary { refused })
         }
         None => {
@@ -216,6 +229,18 @@ pub fn amend_run<R: Source, S: Source, P: Sink, Q: Sink, W: Sink>(
             Ok(Summary { refused })
         }
     }
+}
+
+/// Refuses to write the file after a run that has refused lines, if that is not to be.
+fn refuse_line(is_all_or_nothing: bool, refused: u64) -> Result<(), AmendRunError>
+    ensures done { OnOk result (is_all_or_nothing ≡ true → refused ≡ 0) }
+    ensures fault { IfErr result (λ e. (e ≡ errors.LineRefused) × (is_all_or_nothing ≡ true)
+        × (refused ≢ 0)) }
+{
+    if is_all_or_nothing && refused != 0 {
+        return Err(AmendRunError::LineRefused);
+    }
+    Ok(())
 }
 
 /// Runs everything but the copy. If the file is to be written, no signal may get the name of a
@@ -232,7 +257,6 @@ fn run_script<R: Source, S: Source, P: Sink, Q: Sink>(
     requires passes_ready { AreReady R.has_failed passes.old }
     requires script_ready { S.has_failed script_reader.old ≡ false }
     requires replies_ready { P.has_failed replies.old ≡ false }
-    requires remarks_ready { Q.has_failed remarks.old ≡ false }
     requires depth_least { 1 ≤ depth }
     requires depth_most { depth ≤ DEPTH_LIMIT }
     ensures edited { IfOk result (λ edited. (file lines : List ℕ)
@@ -374,7 +398,7 @@ fn try_lines(
     }
 }
 
-/// Writes the remarks on the lines, then carries these out, and writes their replies.
+/// Carries the lines out, and writes the replies and remarks of each.
 fn edit<P: Sink, Q: Sink>(
     alloc: Global,
     plan: Plan,
@@ -383,7 +407,6 @@ fn edit<P: Sink, Q: Sink>(
     depth: u64,
 ) -> Result<Edited, AmendRunError>
     requires ready { P.has_failed replies.old ≡ false }
-    requires remarks_ready { Q.has_failed remarks.old ≡ false }
     requires sound { IsSound (contents plan.first) }
     requires short { length plan.script.items ≤ SCRIPT_LIMIT }
     requires depth_least { 1 ≤ depth }
@@ -403,12 +426,10 @@ fn edit<P: Sink, Q: Sink>(
         (session_remarks 1 (initial_machine (contents plan.first) depth)
         (script_lines plan.script.items)) }
 {
-    let first = plan.first;
-    let script = plan.script.as_slice();
-    let first = remark(alloc, first, script, remarks, depth)?;
-    let (first, edited) = share_capture(alloc, first)?;
+    let (first, edited) = share_capture(alloc, plan.first)?;
     let mut session = begin_session(alloc, edited, depth)?;
-    let refused = run_lines(alloc, &mut session, plan.skipped, script, replies)?;
+    let script = plan.script.as_slice();
+    let refused = run_remarked_lines(alloc, &mut session, plan.skipped, script, replies, remarks)?;
     Ok(Edited {
         declared: plan.declared,
         first,
@@ -418,32 +439,6 @@ fn edit<P: Sink, Q: Sink>(
         session,
         refused,
     })
-}
-
-/// Writes the remarks on the lines, and gives the capture back. An error ends the remarks alone.
-fn remark<Q: Sink>(
-    alloc: Global,
-    capture: Capture,
-    script: &[u8],
-    remarks: &mut Q,
-    depth: u64,
-) -> Result<Capture, NoMemory>
-    requires ready { Q.has_failed remarks.old ≡ false }
-    requires sound { IsSound (contents capture) }
-    requires short { length script.now ≤ SCRIPT_LIMIT }
-    requires depth_least { 1 ≤ depth }
-    requires depth_most { depth ≤ DEPTH_LIMIT }
-    ensures kept { IfOk result (λ kept. contents kept ≡ contents capture) }
-    ensures remarked { (count : ℕ)
-        × HasPrefix (device_end Q.taken Q.has_failed remarks.old remarks.new) count
-        (session_remarks 1 (initial_machine (contents capture) depth) (script_lines script.now)) }
-{
-    let (capture, tried) = share_capture(alloc, capture)?;
-    let Ok(mut session) = begin_session(alloc, tried, depth) else {
-        return Ok(capture);
-    };
-    let _ = remark_on_lines(alloc, &mut session, script, remarks);
-    Ok(capture)
 }
 
 /// A session on a capture.

@@ -1,2 +1,3 @@
 -- Lemmas of `summed`.
 pub mod EightBytes
+pub mod Worked

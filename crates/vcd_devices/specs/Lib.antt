@@ -1,2 +1,3 @@
 -- The definitions of the devices.
 pub mod Sums
+pub mod OutputFaults

@@ -1,5 +1,5 @@
-//! What is looked for in the bytes of a capture as they are read: the mark of an earlier run, the
-//! comment of a part, and whether the last line has a line feed.
+//! What is looked for in the bytes of a capture as they are read: the mark of an earlier run, and
+//! whether the last line has a line feed.
 
 use std::io::Eprint;
 use vcd_core::is_white_space;
@@ -7,15 +7,13 @@ use vcd_core::is_white_space;
 /// More bytes than any word has that is looked for.
 const WORD_BYTES: usize = 16;
 
-/// How far a search is. The comment of a part stands among the declarations, and a mark comes right
-/// after them, so both are no longer looked for then.
+/// How far a search is. A mark comes right after the declarations, and is not looked for later.
 #[derive(Clone, Copy)]
 pub struct CaptureSearch {
     place: Place,
     // the first bytes of a word that has begun, and how many bytes it has
     word: [u8; WORD_BYTES],
     len: usize,
-    has_part: bool,
     has_mark: bool,
     // the byte that came last, if one has come
     last: Option<u8>,
@@ -26,8 +24,6 @@ pub struct CaptureSearch {
 enum Place {
     /// Declarations.
     Declarations,
-    /// `$comment` among the declarations.
-    Comment,
     /// `$enddefinitions`.
     LastDeclaration,
     /// All declarations.
@@ -45,13 +41,6 @@ pub fn tell_earlier_mark<R: Eprint>(rt: &R) {
     );
 }
 
-/// Tells that the comment of a part was found, which stays in the output.
-pub fn tell_part_comment<R: Eprint>(rt: &R) {
-    let _ = eprintln!(rt;
-        "output: the comment on what part it is stays, and tells nothing of the script"
-    );
-}
-
 /// Tells that the last line of a capture has no line feed, as in a file that was cut off.
 pub fn tell_unended_line<R: Eprint>(rt: &R) {
     let _ = eprintln!(rt; "capture: the last line has no line feed, so the file may be cut short");
@@ -64,7 +53,6 @@ impl CaptureSearch {
             place: Place::Declarations,
             word: [0; WORD_BYTES],
             len: 0,
-            has_part: false,
             has_mark: false,
             last: None,
         }
@@ -73,11 +61,6 @@ impl CaptureSearch {
     /// Whether a mark has come.
     pub fn has_found_mark(&self) -> bool {
         self.has_mark
-    }
-
-    /// Whether the comment of a part has come.
-    pub fn has_found_part(&self) -> bool {
-        self.has_part
     }
 
     /// Whether bytes have come, and the last one is no line feed.
@@ -116,10 +99,8 @@ impl CaptureSearch {
             return;
         }
         let word = self.word.get(..self.len).unwrap_or(b"");
-        match self.place {
-            Place::Comment if word == b"vcdedit-amend:".as_slice() => self.has_part = true,
-            Place::FirstComment if word == b"vcdedit-amend".as_slice() => self.has_mark = true,
-            _ => {}
+        if matches!(self.place, Place::FirstComment) && word == b"vcdedit-amend".as_slice() {
+            self.has_mark = true;
         }
         self.place = next_place(self.place, word);
         self.len = 0;
@@ -131,16 +112,13 @@ fn next_place(place: Place, word: &[u8]) -> Place {
     match place {
         Place::LastDeclaration if word == b"$end".as_slice() => Place::Body,
         Place::Body if word == b"$comment".as_slice() => Place::FirstComment,
-        Place::Declarations | Place::Comment | Place::LastDeclaration => declared_place(word),
+        Place::Declarations | Place::LastDeclaration => declared_place(word),
         Place::Body | Place::FirstComment | Place::Over => Place::Over,
     }
 }
 
 /// What words among the declarations end with, of which this is the last one.
 fn declared_place(word: &[u8]) -> Place {
-    if word == b"$comment".as_slice() {
-        return Place::Comment;
-    }
     if word == b"$enddefinitions".as_slice() {
         return Place::LastDeclaration;
     }

@@ -1,18 +1,18 @@
 //! The devices of `vcdedit-amend`: the capture file, which is read several times, and what it
 //! writes.
 //!
-//! A [`CaptureFile`] is opened once for each pass over it. A pass is [`Watched`]: it shows how far
-//! it is, tells if memory may run out, and finds what there is to tell of the capture. [`Summed`]
+//! A capture is opened once for each [`Pass`] over it. A pass is [`Watched`]: it shows how far it
+//! is, tells if memory may run out, and finds what there is to tell of the capture. [`Summed`]
 //! passes over one file have one sum. A [`SafeFile`] takes the place of another file when it is
 //! whole, a [`PartFile`] holds a part for the time of a run, and [`Remarks`] go to standard error.
 //! Whatever can't be opened, read or written tells the reason there.
 #![tactic(auto)]
 
-mod capture_file;
 mod capture_search;
 mod laws;
 mod memory_forecast;
 mod part_file;
+mod pass;
 mod progress;
 mod reasons;
 mod remarks;
@@ -20,13 +20,13 @@ mod safe_file;
 mod summed;
 mod watched;
 
-pub use capture_file::{CaptureFile, Pass};
-pub use capture_search::{CaptureSearch, tell_earlier_mark, tell_part_comment, tell_unended_line};
+pub use capture_search::{CaptureSearch, tell_earlier_mark, tell_unended_line};
 pub use laws::one_other_byte_shows;
 pub use part_file::PartFile;
+pub use pass::{Pass, open_pass};
 pub use progress::{ProgressLine, Watch};
 pub use reasons::tell_reason;
 pub use remarks::Remarks;
 pub use safe_file::{OutputFault, SafeFile};
 pub use summed::Summed;
-pub use watched::{Watched, open_input, open_named};
+pub use watched::{Watched, open_named};

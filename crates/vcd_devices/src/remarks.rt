@@ -1,31 +1,30 @@
 //! The remarks on the lines of the script, on standard error.
 
-ghost use Rattle.std.specs.Prelude.{◌≡◌, false};
+ghost use Rattle.std.specs.Prelude.{◌≡◌};
 
 use std::io::Eprint;
 use std::str;
 use vcd_core::{DeviceFault, Sink};
 
-/// A sink of text, which goes to standard error, or is dropped if the program is to be quiet. It
-/// fails if standard error does, or at bytes that are no UTF-8.
+/// A sink of text, which goes to standard error. It fails if standard error does, or at bytes that
+/// are no UTF-8. If the program is to be quiet, it has failed from the start, so that no remark is
+/// made.
 #[derive(Drop)]
 pub struct Remarks<'a, R> {
     rt: &'a R,
-    is_quiet: bool,
     failed: bool,
     // read by contracts alone
     is_flushed: bool,
 }
 
 impl<'a, R: Eprint> Remarks<'a, R> {
-    /// A sink that has not failed.
+    /// A sink that has not failed, unless the program is to be quiet.
     pub fn new(rt: &'a R, is_quiet: bool) -> Remarks<'a, R>
-        ensures { ⟦<Remarks<'a, R> as Sink>⟧.has_failed result ≡ false }
+        ensures { ⟦<Remarks<'a, R> as Sink>⟧.has_failed result ≡ is_quiet }
     {
         Remarks {
             rt,
-            is_quiet,
-            failed: false,
+            failed: is_quiet,
             is_flushed: false,
         }
     }
@@ -41,7 +40,7 @@ impl<'a, R: Eprint> Sink for Remarks<'a, R> {
             return Err(DeviceFault);
         }
         self.is_flushed = false;
-        if self.is_quiet || is_printed(self.rt, bytes) {
+        if is_printed(self.rt, bytes) {
             return Ok(bytes.len());
         }
         self.failed = true;

@@ -1,13 +1,16 @@
 //! The output of a run as a sink, which tells why it fails.
 
-ghost use Rattle.std.specs.Prelude.{◌≡◌, false, true, IfOk};
+ghost use Rattle.std.specs.Prelude.{◌≡◌, false, true, IfOk, IfErr};
+ghost use Rattle.vcd_devices.specs.OutputFaults.{fault_of};
+ghost use Rattle.vcd_replace.specs.Errors.{IsEarlyError, IsLateError};
+ghost use Rattle.vcd_replace.specs.declared.replace_error.ReplaceError.{ReplaceError as Error};
 
 use crate::reasons::{tell_folder, tell_reason};
 use std::fs::File;
 use std::io::ErrorKind;
 use std::rt::{Files, Runtime};
 use vcd_core::{DeviceFault, Sink, ToWrite};
-use vcd_replace::{Inputs, OutputFile, ReplaceError};
+use vcd_replace::{InPlace, Inputs, OutputFile, ReplaceError};
 
 /// Why the file of an output can't be written.
 #[derive(Clone, Copy)]
@@ -44,7 +47,8 @@ impl<'a, R: Runtime<File = File> + AllocGlobal> SafeFile<'a, R> {
         path: &'a str,
         inputs: Inputs<'a>,
     ) -> Result<SafeFile<'a, R>, OutputFault>
-        ensures { IfOk result (λ file. ⟦<SafeFile<'a, R> as Sink>⟧.has_failed file ≡ false) }
+        ensures ready { IfOk result (λ file. ⟦<SafeFile<'a, R> as Sink>⟧.has_failed file ≡ false) }
+        ensures fault { IfErr result (λ f. (e : Error) × IsEarlyError e × (f ≡ fault_of e)) }
     {
         match OutputFile::begin(rt, path, inputs) {
             Ok(file) => Ok(SafeFile {
@@ -69,12 +73,13 @@ impl<'a, R: Runtime<File = File> + AllocGlobal> SafeFile<'a, R> {
 
     /// Puts the file in the place of its target. If that fails, a target that it is beside is as it
     /// was.
-    pub fn commit(self) -> Result<(), OutputFault>
+    pub fn commit(self) -> Result<InPlace, OutputFault>
         requires { ⟦<SafeFile<'a, R> as Sink>⟧.is_flushed self ≡ true }
+        ensures { IfErr result (λ f. (e : Error) × IsLateError e × (f ≡ fault_of e)) }
     {
         let SafeFile { rt, path, sink, .. } = self;
         match sink.into_inner().put_in_place() {
-            Ok(()) => Ok(()),
+            Ok(in_place) => Ok(in_place),
             Err(error) => Err(output_fault(rt, path, error)),
         }
     }
@@ -99,7 +104,9 @@ impl<'a, R: Files> Sink for SafeFile<'a, R> {
 }
 
 /// What an error means for the output. What has no name of its own is told.
-fn output_fault<R: Runtime + AllocGlobal>(rt: &R, path: &str, error: ReplaceError) -> OutputFault {
+fn output_fault<R: Runtime + AllocGlobal>(rt: &R, path: &str, error: ReplaceError) -> OutputFault
+    ensures { result ≡ fault_of error }
+{
     match error {
         ReplaceError::Protected => OutputFault::Protected,
         ReplaceError::IsInput => OutputFault::IsInput,

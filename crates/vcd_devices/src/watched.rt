@@ -5,11 +5,10 @@ ghost use Rattle.std.specs.Prelude.{◌≡◌, false, IfOk};
 use crate::capture_search::CaptureSearch;
 use crate::progress::ProgressLine;
 use crate::reasons::tell_reason;
+use std::fs;
 use std::io::Read;
 use std::rt::Runtime;
-use std::{fs, io};
 use vcd_core::{DeviceFault, Source};
-use vcd_shell::{Origin, open_capture};
 
 /// A source over a reader, as `FromRead` of `vcd_core`: nothing is tried again.
 ///
@@ -71,7 +70,9 @@ impl<'a, R: Runtime + AllocGlobal, F: Read> Source for Watched<'a, R, F> {
             Err(error) => {
                 self.failed = true;
                 self.line.clear(self.rt);
-                tell_if_named(self.rt, self.path, &error);
+                if let Some(path) = self.path {
+                    tell_reason(self.rt, path, &error);
+                }
                 Err(DeviceFault)
             }
         }
@@ -92,33 +93,6 @@ pub fn open_named<'a, R: Runtime + AllocGlobal>(
     open_watched(rt, path, ProgressLine::none())
 }
 
-/// Opens the file at a path, or standard input without a path or if it is `-`. If it can't be
-/// opened, the reason is told.
-pub fn open_input<'a, R: Runtime + AllocGlobal>(
-    rt: &'a R,
-    path: Option<&'a str>,
-) -> Result<Watched<'a, R, Origin<R::Reader, R::File>>, DeviceFault>
-    ensures { IfOk result (λ s.
-        ⟦<Watched<'a, R, Origin<R::Reader, R::File>> as Source>⟧.has_failed s ≡ false) }
-{
-    let named = named_path(path);
-    match open_capture(rt, path) {
-        Ok(reader) => Ok(Watched::new(rt, reader, named, ProgressLine::none())),
-        Err(error) => {
-            tell_if_named(rt, named, &error);
-            Err(DeviceFault)
-        }
-    }
-}
-
-/// The path of a file, if it does not mean standard input.
-fn named_path(path: Option<&str>) -> Option<&str> {
-    match path {
-        Some(path) if path == "-" => None,
-        _ => path,
-    }
-}
-
 /// Opens a named file for a pass with this line. If it can't be opened, the reason is told.
 pub fn open_watched<'a, R: Runtime + AllocGlobal>(
     rt: &'a R,
@@ -133,12 +107,5 @@ pub fn open_watched<'a, R: Runtime + AllocGlobal>(
             tell_reason(rt, path, &error);
             Err(DeviceFault)
         }
-    }
-}
-
-/// Tells why a file can't be opened or read, if it has a path.
-fn tell_if_named<R: Runtime + AllocGlobal>(rt: &R, path: Option<&str>, error: &io::Error) {
-    if let Some(path) = path {
-        tell_reason(rt, path, error);
     }
 }

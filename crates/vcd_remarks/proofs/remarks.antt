@@ -1,18 +1,16 @@
 -- Lemmas of `remarks`.
 pub mod RemarksInTurn
 pub mod RunsLeft
+pub mod RunsOfDeglitch
+pub mod DeglitchFindings
 pub mod PulsesFound
-pub mod DelaysFound
-pub mod StretchesFound
-pub mod ShortRunsLeft
-pub mod PlacesShown
-pub mod FallsLeft
-pub mod LevelRuns
 pub mod ChangesTakenOut
 pub mod AllRuns
-pub mod NoFrame
-pub mod IdleLines
 pub mod PulsesTakenOut
 pub mod InvertedTwice
 pub mod DelaysAtTicks
 pub mod NamesOfSeveral
+pub mod ShortRuns
+pub mod NotedRuns
+pub mod UartLine
+pub mod FindingsOfSignals

@@ -1,3 +1,4 @@
 -- Lemmas: shared.
 pub mod SessionRemarks
 pub mod RemarksOnHollow
+pub mod FoundSoFar

@@ -1,11 +1,16 @@
 -- The definitions of remarks: what there is to say of a line beyond its reply.
-pub mod LastBits
-pub mod BusDoubts
+pub mod LostLines
 pub mod UartEdges
-pub mod SpiSamples
+pub mod FoundTicks
+pub mod Findings
 pub mod ValueRuns
+pub mod EditFindings
 pub mod ClockRuns
-pub mod SpiRemarks
+pub mod SpiLine
+pub mod SpiSelection
+pub mod BusFindings
+pub mod UartLine
+pub mod DecoderFindings
 pub mod Remarks
 pub mod RemarkLaws
 pub mod NamedSignals

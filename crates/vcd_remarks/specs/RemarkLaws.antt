@@ -1,22 +1,17 @@
 -- What is true where remarks are made: the contracts of functions of `laws`.
-use Rattle.std.specs.Prelude.{ℕ, zero, suc, ◌-◌, ◌≡◌, ◌≢◌, ◌<◌, ◌≤◌, nat_lt, Bool, false}
+use Rattle.std.specs.Prelude.{ℕ, zero, suc, ◌-◌, ◌≡◌, ◌≢◌, ◌<◌, ◌≤◌, nat_lt, Bool}
 use Rattle.std.specs.Prelude.{if◌then◌else◌, None, List, [], ◌∷◌, length, map, All}
 use Rattle.std.specs.List.{filter, range_with_len}
 use Rattle.vcd_core.specs.declared.bit.Bit.{Bit}
-use Rattle.vcd_core.specs.declared.bit.Bit.TheVariants.{X}
-use Rattle.vcd_core.specs.Value.{letter_at, same_letters}
+use Rattle.vcd_core.specs.Value.{same_letters}
 use Rattle.vcd_core.specs.Contents.{Contents, signal_at}
 use Rattle.vcd_core.specs.Sound.{IsSound}
 use Rattle.vcd_edit.specs.declared.edit.Edit.TheVariants.{Deglitch}
 use Rattle.vcd_edit.specs.Effect.{is_steady, effect}
 use Rattle.vcd_edit.specs.EditFaults.{edit_fault}
 use Rattle.vcd_edit.specs.EffectLaws.{value_of}
-use Rattle.vcd_edit.specs.Effect.{signal_bit}
-use Rattle.vcd_decode.specs.UartSetup.{UartSetup}
-use Rattle.vcd_decode.specs.Uart.{falls}
-use Rattle.vcd_script.specs.CommandSignals.{IsScalarAt}
-use Rattle.vcd_script.specs.DecoderReply.{uart_lines}
-use Rattle.vcd_remarks.specs.Remarks.{delays_after_pulses, has_fall, frame_ticks, idle_remark}
+use Rattle.vcd_remarks.specs.EditFindings.{late_edges}
+use Rattle.vcd_remarks.specs.FoundTicks.{span}
 use Rattle.vcd_remarks.specs.ValueRuns.{ValueRun, value_runs, is_pulse}
 
 -- these are the runs of one value at the ticks `from` to `end`: they follow one another, each has
@@ -62,25 +57,10 @@ delay_at c k ticks t =
     if same_letters (after t) (after (t - 1)) then 0
     else unsteady_before (is_steady ticks c.end (value_of c k)) t
 
--- the delays that a remark tells of are those at all ticks
+-- the edges that a remark calls late are those at all ticks at which an edge is late
 abbrev pub DelaysAreAll : Type 0
 DelaysAreAll =
     (c : Contents) (k ticks : ℕ) → IsSound c → k < length c.signals
     → edit_fault (Deglitch k ticks) c ≡ None
-    → delays_after_pulses ticks c.end (value_runs c.end (signal_at c k))
-    ≡ filter (nat_lt 0) (map (delay_at c k ticks) (range_with_len 0 (suc c.end)))
-
--- where a remark says that no frame begins, there is none
-abbrev pub NoFallNoFrame : Type 0
-NoFallNoFrame =
-    (c : Contents) (k : ℕ) (setup : UartSetup) → IsSound c → IsScalarAt c k
-    → has_fall X (map (λ d. letter_at d.value 0) (signal_at c k).changes) ≡ false
-    → uart_lines c k setup ≡ []
-
--- where no remark says that a frame may have begun before tick 0, each fall is past the ticks that
--- a frame has which begins at tick 0
-abbrev pub FallsAfterFrame : Type 0
-FallsAfterFrame =
-    (c : Contents) (k : ℕ) (setup : UartSetup) → IsSound c → IsScalarAt c k
-    → idle_remark (frame_ticks setup) c.end (signal_at c k) ≡ []
-    → All (λ t. frame_ticks setup ≤ t) (falls (signal_bit c k 0) c.end)
+    → late_edges ticks c.end (value_runs c.end (signal_at c k)) ≡ filter (λ s. nat_lt 0 s.ticks)
+    (map (λ t. span t (delay_at c k ticks t)) (range_with_len 0 (suc c.end)))

@@ -1,8 +1,6 @@
 -- The runs of one value of a signal: which there are, how many ticks they have, and which are
 -- pulses. The project's own.
 use Rattle.std.specs.Prelude.{ℕ, ◌+◌, ◌-◌, ◌==◌, ◌&&◌, nat_lt, Bool, if◌then◌else◌, List, [], ◌∷◌}
-use Rattle.std.specs.Prelude.{length}
-use Rattle.std.specs.List.{filter}
 use Rattle.vcd_core.specs.declared.bit.Bit.{Bit}
 use Rattle.vcd_core.specs.declared.wave.Change.{Change}
 use Rattle.vcd_core.specs.Value.{all_x}
@@ -48,7 +46,3 @@ ticks_of_run r = r.last - r.first + 1
 -- That is, its ticks are not steady (`Effect` of vcd_edit)
 abbrev pub is_pulse : (ticks end : ℕ) → ValueRun → Bool
 is_pulse ticks end r = nat_lt 0 r.first && nat_lt r.last end && nat_lt (ticks_of_run r) ticks
-
--- how many runs of a signal have fewer ticks, and contain neither tick 0 nor the end
-abbrev pub shorter_runs : (ticks end : ℕ) → SignalContents → ℕ
-shorter_runs ticks end s = length (filter (is_pulse ticks end) (value_runs end s))

@@ -1,6 +1,11 @@
 -- Intermediate definitions, cited only by proofs and by contracts of private functions. A reader
 -- need not believe them.
+pub mod FoundTicks
+pub mod LineRemarks
 pub mod remarks
-pub mod SpiSamples
-pub mod JointEdges
-pub mod DoubtsSoFar
+pub mod LostLines
+pub mod ClockRuns
+pub mod SpiLine
+pub mod SpiSelection
+pub mod BusFindings
+pub mod JointRises

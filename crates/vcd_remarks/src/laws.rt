@@ -1,30 +1,25 @@
 //! Laws about the definitions: the contract of each function is the law.
 
-ghost use Rattle.vcd_remarks.specs.RemarkLaws.{DelaysAreAll, ValueRunsAreAll, FallsAfterFrame};
-ghost use Rattle.vcd_remarks.specs.RemarkLaws.{NoFallNoFrame, PulsesAreTakenOut};
+ghost use Rattle.vcd_remarks.specs.RemarkLaws.{DelaysAreAll, ValueRunsAreAll};
+ghost use Rattle.vcd_remarks.specs.RemarkLaws.{PulsesAreTakenOut};
 ghost use Rattle.vcd_remarks.specs.RemarksOfRun.{RemarksOnHollow, RemarksWithOthers};
 ghost use Rattle.vcd_remarks.specs.SessionRemarks.{SessionRemarksAreRun};
-ghost use Rattle.vcd_remarks.specs.SpiSamples.{SpiSamplesAreOfWords};
+ghost use Rattle.vcd_remarks.specs.SpiLine.{SpiSamplesAreOfWords};
 
 use vcd_edit::deglitch_takes_short_runs_out;
 
-/// The runs of a signal, by which remarks count pulses and name places, are all its runs of one
-/// value, from tick 0 to the end. The pulses are just those that a deglitch takes out. The edges
-/// that are late are those of the signal after it, right after ticks that are not steady. Where a
-/// remark says that no frame begins, there is none. Where none says that a frame may have begun
-/// before tick 0, each fall is past the ticks of a frame.
+/// The runs of a signal, by which pulses are found and places named, are all its runs of one value,
+/// from tick 0 to the end. The pulses are just those that a deglitch takes out. The late edges are
+/// those of the signal after it, right after ticks that are not steady.
 pub fn remarks_are_true()
     ensures runs { ValueRunsAreAll }
     ensures pulses { PulsesAreTakenOut }
     ensures edges { DelaysAreAll }
-    ensures frames { NoFallNoFrame }
-    ensures idle { FallsAfterFrame }
 {
     deglitch_takes_short_runs_out();
 }
 
-/// Lines that are carried out on a new session, as [`remark_on_lines`](crate::remark_on_lines)
-/// does, have the remarks of a run.
+/// Lines that are carried out on a new session have the remarks of a run.
 pub fn session_remarks_are_run()
     ensures { SessionRemarksAreRun }
 {}
@@ -36,7 +31,7 @@ pub fn remarks_on_hollow_captures()
     ensures run { RemarksOnHollow }
 {}
 
-/// The samples that [`spi_line_samples`](crate::spi_line_samples) counts are those of the words
+/// The samples that `spi_line_findings` looks at are those of the words
 /// that `spi` finds: what the parts between the ticks at which the chip is not
 /// selected have of them, one after the other.
 pub fn spi_samples_are_of_words()

@@ -4,25 +4,27 @@ ghost use Rattle.std.specs.Prelude.{◌≡◌};
 ghost use Rattle.vcd_core.specs.Wave.{AllUpTo};
 ghost use Rattle.vcd_decode.specs.WaveLines.{line_of};
 ghost use Rattle.vcd_decode.specs.Uart.{uart_annotations};
+ghost use Rattle.vcd_remarks.specs.FoundTicks.{found_ticks};
 ghost use Rattle.vcd_remarks.specs.UartEdges as spec;
 
+use crate::findings::found_ticks::FoundTicks;
 use vcd_core::{Bit, Wave};
 use vcd_decode::{Annotation, Kind, Uart, begins_frame, begun_frame};
 
-/// How many changes of a line of one bit, in a capture that ends at the tick `end`, come within a
+/// The ticks at which a line of one bit, in a capture that ends at the tick `end`, changes within a
 /// frame of `uart` but more than a quarter of a bit away from both ends of the bit
 /// that they are in. The edges of what is sent come at the ends of bits, so these are spikes, or
 /// the setup's bits are too long or too short.
 ///
 /// It is one walk, which takes a step for each change, and for each sample a binary search among
 /// the changes of its frame. It takes no memory.
-pub fn uart_edges_amid_bits(wave: &Wave, end: u64, setup: &Uart) -> u64
+pub fn uart_edges_amid_bits(wave: &Wave, end: u64, setup: &Uart) -> FoundTicks
     requires one_bit { wave.now.width ≡ 1 }
     requires within { AllUpTo end wave.now.changes }
-    ensures { result ≡ spec.edges_amid_bits setup.now wave.now.changes
-        (uart_annotations (line_of wave.now) end setup.now) }
+    ensures { result ≡ found_ticks (spec.edges_amid_bits setup.now wave.now.changes
+        (uart_annotations (line_of wave.now) end setup.now)) }
 {
-    let mut count = 0;
+    let mut found = FoundTicks::none();
     let mut before = Bit::X;
     let mut frame = Annotation {
         start: 0,
@@ -38,10 +40,10 @@ pub fn uart_edges_amid_bits(wave: &Wave, end: u64, setup: &Uart) -> u64
             None
         };
         frame = begun.unwrap_or(frame);
-        count += u64::from(is_amid_bit_of(setup, frame, change.tick));
+        found = found.with_tick_if(is_amid_bit_of(setup, frame, change.tick), change.tick);
         before = letter;
     }
-    count
+    found
 }
 
 /// Whether a tick is within a frame, after its first and before its last tick, and amid its bits.

@@ -1,2 +1,3 @@
 -- The definitions of how a file is replaced.
 pub mod Names
+pub mod Errors

@@ -1,10 +1,15 @@
 //! The output of a run.
 
-use crate::new_file::{NewFile, OldFile, Place, Step};
+ghost use Rattle.std.specs.Prelude.{IfErr};
+ghost use Rattle.vcd_replace.specs.Errors.{IsEarlyError, IsLateError};
+
+use crate::in_place::InPlace;
 use crate::own_folder::OwnFolder;
 use crate::replace_error::ReplaceError;
 use crate::seen_file::{SeenFile, is_one_file};
+use crate::synced::{OldFile, Place, Synced};
 use crate::target::{folder_beside, is_open_elsewhere, real_path};
+use crate::unchanged::Unchanged;
 use std::fs::{File, Metadata, OpenOptions};
 use std::io::{ErrorKind, Write};
 use std::path::PathBuf;
@@ -47,7 +52,9 @@ impl<'a, R: Files<File = File> + AllocGlobal> OutputFile<'a, R> {
         rt: &'a R,
         path: &str,
         inputs: Inputs<'a>,
-    ) -> Result<OutputFile<'a, R>, ReplaceError> {
+    ) -> Result<OutputFile<'a, R>, ReplaceError>
+        ensures { IfErr result IsEarlyError }
+    {
         match fs::metadata(rt, path) {
             Ok(found) if found.is_dir() => Err(io::Error::from(ErrorKind::IsADirectory).into()),
             Ok(found) if found.is_file() => begin_over(rt, path, &found, inputs),
@@ -67,7 +74,9 @@ impl<'a, R: Files<File = File> + AllocGlobal> OutputFile<'a, R> {
     /// It is first written to the disk, and then the capture is looked at for the last time. If one
     /// of these fails, the file is removed and the target is as it was. A target that is written as
     /// it is has all bytes by then, and only the capture is looked at.
-    pub fn put_in_place(self) -> Result<(), ReplaceError> {
+    pub fn put_in_place(self) -> Result<InPlace, ReplaceError>
+        ensures { IfErr result IsLateError }
+    {
         let OutputFile {
             files,
             capture,
@@ -75,17 +84,11 @@ impl<'a, R: Files<File = File> + AllocGlobal> OutputFile<'a, R> {
             place,
         } = self;
         let Some(place) = place else {
-            return look_at(files, capture);
+            return InPlace::as_it_is(files, capture);
         };
-        let new = NewFile {
-            files,
-            place,
-            file,
-            step: Step::Written,
-        };
-        let new = new.sync()?;
-        let new = new.look(capture)?;
-        Ok(new.rename()?)
+        let new = Synced::sync(place, file)?;
+        let new = Unchanged::look(files, new, capture)?;
+        Ok(InPlace::rename(files, new)?)
     }
 }
 
@@ -99,21 +102,15 @@ impl<R: Files> Write for OutputFile<'_, R> {
     }
 }
 
-/// Refuses a capture that has changed since it was found.
-fn look_at<R: Files>(files: &R, capture: Option<SeenFile<'_>>) -> Result<(), ReplaceError> {
-    match capture {
-        Some(capture) if capture.is_replaced(files) => Err(ReplaceError::CaptureChanged),
-        _ => Ok(()),
-    }
-}
-
 /// Begins the output for a regular file that is there, whose metadata are these.
 fn begin_over<'a, R: Files<File = File> + AllocGlobal>(
     rt: &'a R,
     path: &str,
     found: &Metadata,
     inputs: Inputs<'a>,
-) -> Result<OutputFile<'a, R>, ReplaceError> {
+) -> Result<OutputFile<'a, R>, ReplaceError>
+    ensures { IfErr result IsEarlyError }
+{
     let old = OldFile::of(found);
     if is_script(rt, found, inputs.script) {
         return Err(ReplaceError::IsInput);
@@ -137,7 +134,9 @@ fn begin_new<'a, R: Files<File = File> + AllocGlobal>(
     rt: &'a R,
     path: &str,
     inputs: Inputs<'a>,
-) -> Result<OutputFile<'a, R>, ReplaceError> {
+) -> Result<OutputFile<'a, R>, ReplaceError>
+    ensures { IfErr result IsEarlyError }
+{
     if path.ends_with('/') || fs::symlink_metadata(rt, path).is_ok() {
         return Err(io::Error::from(ErrorKind::NotFound).into());
     }
@@ -171,7 +170,9 @@ fn is_script<R: Files>(files: &R, found: &Metadata, script: Option<&str>) -> boo
 }
 
 /// Refuses a file that may not be written.
-fn refuse_protected<R: Files>(files: &R, path: &str, found: &Metadata) -> Result<(), ReplaceError> {
+fn refuse_protected<R: Files>(files: &R, path: &str, found: &Metadata) -> Result<(), ReplaceError>
+    ensures { IfErr result IsEarlyError }
+{
     if found.permissions().readonly() {
         return Err(ReplaceError::Protected);
     }
@@ -193,7 +194,9 @@ fn create<'a, R: Files<File = File> + AllocGlobal>(
     target: PathBuf,
     old: Option<OldFile>,
     inputs: Inputs<'a>,
-) -> Result<OutputFile<'a, R>, ReplaceError> {
+) -> Result<OutputFile<'a, R>, ReplaceError>
+    ensures { IfErr result IsEarlyError }
+{
     let mut folder = OwnFolder::make(rt, folder_beside(rt.alloc(), &target)?)?;
     let mode = if old.is_some() { 0o600 } else { 0o666 };
     let file = folder.create_file(mode)?;

@@ -1,5 +1,8 @@
 //! A folder that is a run's own, in which its output is written.
 
+ghost use Rattle.std.specs.Prelude.{IfErr};
+ghost use Rattle.vcd_replace.specs.Errors.{IsEarlyError};
+
 use crate::open_files::open_path;
 use crate::replace_error::ReplaceError;
 use crate::seen_file::is_one_file;
@@ -35,8 +38,11 @@ enum Lock {
 }
 
 impl<'a, R: Files<File = File> + AllocGlobal> OwnFolder<'a, R> {
-    /// Makes the folder, or takes over one that was left.
-    pub fn make(rt: &'a R, folder: PathBuf) -> Result<OwnFolder<'a, R>, ReplaceError> {
+    /// Makes the folder, or takes over one that was left. One that others have, or make or remove
+    /// meanwhile, is in use.
+    pub fn make(rt: &'a R, folder: PathBuf) -> Result<OwnFolder<'a, R>, ReplaceError>
+        ensures { IfErr result IsEarlyError }
+    {
         if !is_made(rt, &folder)? && !(is_cleared(rt, &folder)? && is_made(rt, &folder)?) {
             return Err(ReplaceError::InUse { folder });
         }
@@ -117,8 +123,12 @@ fn file_within<R: Files + AllocGlobal>(
 
 /// Removes a folder with its file, if nobody has locked it.
 fn is_cleared<R: Files<File = File> + AllocGlobal>(rt: &R, folder: &PathBuf) -> io::Result<bool> {
-    if !fs::symlink_metadata(rt, folder)?.is_dir() {
-        return Ok(false);
+    match fs::symlink_metadata(rt, folder) {
+        Ok(found) if found.is_dir() => {}
+        Ok(_) => return Ok(false),
+        // the run that had it has removed it
+        Err(error) if error.kind() == ErrorKind::NotFound => return Ok(true),
+        Err(error) => return Err(error),
     }
     match lock_folder(rt, folder) {
         Ok(Lock::Taken(lock)) => {
@@ -133,7 +143,10 @@ fn is_cleared<R: Files<File = File> + AllocGlobal>(rt: &R, folder: &PathBuf) -> 
 
 /// Tries to lock a folder.
 fn lock_folder<R: Files<File = File>>(files: &R, folder: &PathBuf) -> io::Result<Lock> {
-    let opened = fs::open(files, folder)?;
+    let opened = match fs::open(files, folder) {
+        Err(error) if error.kind() == ErrorKind::NotFound => return Ok(Lock::Refused),
+        opened => opened?,
+    };
     let lock = match opened.try_lock() {
         Ok(()) => Lock::Taken(opened),
         Err(TryLockError::Error(_)) => Lock::Unknown(opened),
@@ -150,6 +163,9 @@ fn lock_folder<R: Files<File = File>>(files: &R, folder: &PathBuf) -> io::Result
 
 /// Whether an open file is the one at a path.
 fn is_at<R: Files>(files: &R, opened: &File, path: &PathBuf) -> io::Result<bool> {
-    let found = fs::symlink_metadata(files, path)?;
-    Ok(is_one_file(&found, &opened.metadata()?))
+    match fs::symlink_metadata(files, path) {
+        Ok(found) => Ok(is_one_file(&found, &opened.metadata()?)),
+        Err(error) if error.kind() == ErrorKind::NotFound => Ok(false),
+        Err(error) => Err(error),
+    }
 }

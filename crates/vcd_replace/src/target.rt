@@ -1,6 +1,6 @@
 //! Where an output goes.
 
-ghost use Rattle.std.specs.Prelude.{◌≡◌, IfOk, IfSome};
+ghost use Rattle.std.specs.Prelude.{◌≡◌, IfOk, IsSomeAnd};
 ghost use Rattle.std.specs.Path.{path_buf_bytes, path_bytes, path_file_name, path_parent};
 ghost use Rattle.std.specs.Path.{path_with_file_name};
 ghost use Rattle.vcd_replace.specs.Names.{folder_name};
@@ -58,8 +58,9 @@ pub fn folder_of<'a>(path: Path<'a>) -> Path<'a>
 }
 
 /// The folder in which the output for this target is written: it is beside it, with a hidden name.
+/// A path without a name, as `..`, is refused.
 pub fn folder_beside(alloc: Global, target: &PathBuf) -> io::Result<PathBuf>
-    ensures { IfOk result (λ folder. IfSome (path_file_name (path_buf_bytes target.now)) (λ name.
+    ensures { IfOk result (λ folder. IsSomeAnd (path_file_name (path_buf_bytes target.now)) (λ name.
         path_buf_bytes folder
         ≡ path_with_file_name (path_buf_bytes target.now) (folder_name name))) }
 {

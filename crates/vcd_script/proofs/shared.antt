@@ -3,4 +3,5 @@ pub mod LinesAndHistory
 pub mod LawsOfRun
 pub mod AnsweredLines
 pub mod LinesLeft
+pub mod ObservedLines
 pub mod PartsOfRun

@@ -13,6 +13,7 @@ pub mod CommandSignals
 pub mod DecoderReply
 pub mod Reply
 pub mod SessionLines
+pub mod ObservedLines
 pub mod LineRunEnds
 pub mod Run
 pub mod FileLaws

@@ -12,8 +12,8 @@
 //! A caller that has a session carries lines out on it: [`run_lines`] all of them, or one at a time
 //! [`answer_line`], which gives a [`Reply`]. [`split_line`] takes a line off a script, and
 //! [`parse_line`] says what it asks for, and changes nothing; [`waves_of_command`] says whose
-//! changes that needs, and [`remarks_on`] what there is to say of it beyond the reply, which
-//! [`remark_on_lines`] does for all lines. The laws say what follows from these contracts.
+//! changes that needs. A [`LineObserver`] is shown each line. The laws say what follows from these
+//! contracts.
 #![tactic(auto)]
 
 mod laws;
@@ -27,5 +27,5 @@ pub use replies::{MemoryResult, Reply, answer_line, is_no_memory, scalar_wave, w
 pub use running::run::run;
 pub use running::run_lines::run_lines;
 pub use running::run_on_bytes::{RunRefusal, RunTexts, Stage, run_on_bytes};
-pub use running::{RunError, SCRIPT_LIMIT, Summary, read_script};
+pub use running::{LineObserver, RunError, SCRIPT_LIMIT, Summary, Unobserved, read_script};
 pub use script::{Command, Keyword, LineError, parse_line, split_line};

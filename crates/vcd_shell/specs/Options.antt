@@ -19,10 +19,6 @@ input_option = record (value_option (codes "input-file")) { short = Some 105 }
 abbrev pub output_option : Rule
 output_option = record (value_option (codes "output-file")) { short = Some 111 }
 
--- `CAPTURE`, without an option
-abbrev pub capture_argument : Rule
-capture_argument = record (new_rule (codes "capture")) { value_names = 1 }
-
 -- `--depth N`, a number from 1 to the limit, by default 100
 abbrev pub depth_option : Rule
 depth_option = record

@@ -1,5 +1,5 @@
 -- What words of the command line get that ask for no run: the project's own.
-use Rattle.std.specs.Prelude.{◌≡◌, ◌≢◌, ◌⊎◌, ℕ, Bool, true, false, List, []}
+use Rattle.std.specs.Prelude.{◌≡◌, ◌≢◌, ◌⊎◌, ℕ, Bool, true, false, List, [], codes}
 use Rattle.std.specs.String.{string_bytes}
 use Rattle.clap.specs.Words.{Kinds, IsAmong}
 use Rattle.clap.specs.declared.error.kind.ErrorKind.{ErrorKind}
@@ -36,10 +36,9 @@ without_run_status NotShown = 4
 without_run_status (Refused text) = 2
 without_run_status NoMemory = 5
 
--- the text on standard error, by the program's name, and by what its line says if standard output
--- fails
-abbrev pub without_run_text : (program write_fault : List ℕ) → WithoutRun → List ℕ
-without_run_text program write_fault Shown = []
-without_run_text program write_fault NotShown = report_of program write_fault
-without_run_text program write_fault (Refused text) = string_bytes text
-without_run_text program write_fault NoMemory = out_of_memory_report program
+-- the text on standard error, by the program's name: standard output may have failed
+abbrev pub without_run_text : (program : List ℕ) → WithoutRun → List ℕ
+without_run_text program Shown = []
+without_run_text program NotShown = report_of program (codes "replies: write fault")
+without_run_text program (Refused text) = string_bytes text
+without_run_text program NoMemory = out_of_memory_report program

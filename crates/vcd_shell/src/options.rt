@@ -26,16 +26,6 @@ pub fn output_option<'a>(alloc: Global, help: &'a str) -> Arg<'a>
     value_option(alloc, "output-file", "FILE", help).short('o')
 }
 
-/// `CAPTURE`, without an option.
-pub fn capture_argument<'a>(alloc: Global) -> Arg<'a>
-    ensures rule { rule_of result ≡ spec.capture_argument }
-    ensures local { result.global ≡ false }
-{
-    Arg::new(alloc, "capture")
-        .value_name("CAPTURE")
-        .help("The same, without -i")
-}
-
 /// `--script FILE`.
 pub fn script_option<'a>(alloc: Global) -> Arg<'a>
     ensures rule { rule_of result ≡ spec.value_option (codes "script") }

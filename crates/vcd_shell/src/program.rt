@@ -5,12 +5,13 @@ ghost use Rattle.std.specs.String.{string_bytes};
 ghost use Rattle.std.specs.Vec.Iter.{into_iter_items};
 ghost use Rattle.clap.specs.Words.{FailsBy, fault_of, found_of, matches_of, rows_of};
 ghost use Rattle.clap.specs.declared.error.kind.ErrorKind.TheVariants.{ValueValidation};
+ghost use Rattle.vcd_script.specs.declared.running.run_error.Summary.{Summary as SummaryOf};
 ghost use Rattle.vcd_shell.specs.Endings.{HasEnding, ending_status, ending_text};
 ghost use Rattle.vcd_shell.specs.Report.{IsTold};
 ghost use Rattle.vcd_shell.specs.WithoutRun.{IsAnswer};
 ghost use Rattle.vcd_shell.specs.declared.words.WithoutRun.{WithoutRun as WithoutRunOf};
 
-use crate::reporting::report_without_run;
+use crate::reporting::{done_status, report_without_run};
 use crate::words::{WithoutRun, answer_bad_words, answer_error, words_after_name};
 use clap::{ArgMatches, Command, Error};
 use std::alloc::{AllocError, Global};
@@ -19,40 +20,36 @@ use std::fs::File;
 use std::io;
 use std::rt::Runtime;
 use vcd_core::Sink;
+use vcd_script::Summary;
 
 /// A program: the options of its command line, and what it does for words that they accept.
 pub trait Program {
-    ghost use Rattle.std.specs.Prelude.{ℕ, List, true};
+    ghost use Rattle.std.specs.Prelude.{ℕ, List, Result, true};
     ghost use Rattle.clap.specs.Words.{App, Text, app_of, is_simple_and_free};
+    ghost use Rattle.vcd_script.specs.declared.running.run_error.Summary.{Summary};
+    ghost use Rattle.vcd_shell.specs.Report.{IsReported};
 
-    /// How it ends on words that its options accept.
-    type Outcome: Drop;
+    /// Why a run that its words ask for was not completed.
+    type Error: Drop;
 
     // its name, as its lines on standard error begin
     ghost name: { List ℕ };
 
-    // what its line says if standard output fails
-    ghost write_fault: { List ℕ };
-
     // its options, as `clap` reads them
     ghost options: { App };
 
-    // whether words that the options accept may have this outcome
-    ghost can_end: { List Text → Self.Outcome → Type 0 };
+    // whether a run that these accepted words ask for may end so
+    ghost can_end: { List Text → Result Summary Self.Error → Type 0 };
 
-    // the exit status of an outcome
-    ghost status: { Self.Outcome → ℕ };
+    // the exit status of an error
+    ghost status: { Self.Error → ℕ };
 
     // its text on standard error
-    ghost text: { Self.Outcome → List ℕ };
+    ghost text: { Self.Error → List ℕ };
 
     /// Its name, as its lines on standard error begin.
     fn name() -> &'static [u8]
         ensures { result.now ≡ name };
-
-    /// What its line says if standard output fails.
-    fn write_fault() -> &'static [u8]
-        ensures { result.now ≡ write_fault };
 
     /// Its name and options.
     fn command_line<'a>(alloc: Global) -> Result<Command<'a>, AllocError>
@@ -62,17 +59,17 @@ pub trait Program {
     fn carry_out<R: Runtime<File = File> + AllocGlobal>(
         rt: &R,
         matches: &ArgMatches<'_>,
-    ) -> Self::Outcome
+    ) -> Result<Summary, Self::Error>
         ensures { (words : List Text) → rows_of (found_of matches.now) ≡ matches_of options words →
             can_end words result };
 
-    /// Writes the text of an outcome, flushes it, and returns the exit status. A fault of the
-    /// writer is ignored.
-    fn report<W: Sink>(outcome: &Self::Outcome, writer: &mut W) -> u8
+    /// Writes the text of an error, flushes it, and returns the exit status. A fault of the writer
+    /// is ignored.
+    fn report<W: Sink>(error: &Self::Error, writer: &mut W) -> u8
         ensures most { result ≤ 5 }
-        ensures status { result ≡ status outcome.now }
-        ensures text { IsTold (W.has_failed writer.new) (W.is_flushed writer.new)
-            (W.taken writer.old) (W.taken writer.new) (text outcome.now) };
+        ensures status { result ≡ status error.now }
+        ensures text { IsReported (W.has_failed writer.new) (W.is_flushed writer.new)
+            (W.taken writer.old) (W.taken writer.new) (text error.now) };
 
     // `clap` says of such options exactly which words they accept
     ghost is_free: { is_simple_and_free options ≡ true };
@@ -89,14 +86,14 @@ pub fn status_of_program<P: Program, R: Runtime<File = File> + AllocGlobal, E: S
 ) -> u8
     ensures most { result ≤ 5 }
     // the status and the text are those of one ending, which is that of the words
-    ensures reported { (ending : Result P.Outcome WithoutRunOf) ×
+    ensures reported { (ending : Result (Result SummaryOf P.Error) WithoutRunOf) ×
         IfOk words (λ args. HasEnding P.options P.can_end
         (map string_bytes (drop 1 (into_iter_items args))) ending) ×
         IfErr words (λ _. IsErrAnd ending (IsAnswer (ValueValidation ∷ []))) ×
         (result ≡ ending_status P.status ending) ×
         IsTold (E.has_failed errors.new) (E.is_flushed errors.new)
         (E.taken errors.old) (E.taken errors.new)
-        (ending_text P.text P.name P.write_fault ending) }
+        (ending_text P.text P.name ending) }
 {
     match words {
         Ok(words) => report_ending::<P, E>(ending_of_words::<P, R>(rt, words), errors),
@@ -108,16 +105,20 @@ pub fn status_of_program<P: Program, R: Runtime<File = File> + AllocGlobal, E: S
 }
 
 /// Writes the text of an ending, flushes it, and returns the exit status.
-fn report_ending<P: Program, E: Sink>(ending: Result<P::Outcome, WithoutRun>, errors: &mut E) -> u8
+fn report_ending<P: Program, E: Sink>(
+    ending: Result<Result<Summary, P::Error>, WithoutRun>,
+    errors: &mut E,
+) -> u8
     ensures most { result ≤ 5 }
     ensures status { result ≡ ending_status P.status ending }
     ensures text { IsTold (E.has_failed errors.new) (E.is_flushed errors.new)
         (E.taken errors.old) (E.taken errors.new)
-        (ending_text P.text P.name P.write_fault ending) }
+        (ending_text P.text P.name ending) }
 {
     match ending {
-        Ok(outcome) => P::report(&outcome, errors),
-        Err(answer) => report_without_run(P::name(), P::write_fault(), &answer, errors),
+        Ok(Ok(summary)) => done_status(&summary),
+        Ok(Err(error)) => P::report(&error, errors),
+        Err(answer) => report_without_run(P::name(), &answer, errors),
     }
 }
 
@@ -125,7 +126,7 @@ fn report_ending<P: Program, E: Sink>(ending: Result<P::Outcome, WithoutRun>, er
 fn ending_of_words<P: Program, R: Runtime<File = File> + AllocGlobal>(
     rt: &R,
     words: Args,
-) -> Result<P::Outcome, WithoutRun>
+) -> Result<Result<Summary, P::Error>, WithoutRun>
     ensures { HasEnding P.options P.can_end (map string_bytes (drop 1 (into_iter_items words)))
         result }
 {

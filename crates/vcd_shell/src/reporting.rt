@@ -86,24 +86,17 @@ pub fn report_no_memory<W: Sink>(program: &[u8], writer: &mut W)
 }
 
 /// Writes the text for words that ask for no run, flushes the writer, and returns the exit status.
-/// If standard output failed, the line says `write_fault` after the program's name. A fault of the
-/// writer is ignored. It takes no memory.
-pub fn report_without_run<W: Sink>(
-    program: &[u8],
-    write_fault: &[u8],
-    answer: &WithoutRun,
-    writer: &mut W,
-) -> u8
+/// A fault of the writer is ignored. It takes no memory.
+pub fn report_without_run<W: Sink>(program: &[u8], answer: &WithoutRun, writer: &mut W) -> u8
     ensures most { result ≤ 5 }
     ensures status { result ≡ without_run_status answer.now }
     ensures text { IsTold (W.has_failed writer.new) (W.is_flushed writer.new)
-        (W.taken writer.old) (W.taken writer.new)
-        (without_run_text program.now write_fault.now answer.now) }
+        (W.taken writer.old) (W.taken writer.new) (without_run_text program.now answer.now) }
 {
     match answer {
         WithoutRun::Shown => 0,
         WithoutRun::NotShown => {
-            report(program, write_fault, writer);
+            report(program, b"replies: write fault", writer);
             4
         }
         WithoutRun::Refused(text) => {
@@ -153,7 +146,8 @@ pub fn write_status(error: &WriteError) -> u8
 
 /// The exit status of a completed run: 1 if a line of the script was refused.
 pub fn done_status(summary: &Summary) -> u8
-    ensures { result ≡ done_status summary.now.refused }
+    ensures most { result ≤ 5 }
+    ensures status { result ≡ done_status summary.now.refused }
 {
     if summary.refused == 0 { 0 } else { 1 }
 }

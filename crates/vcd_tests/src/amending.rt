@@ -9,7 +9,7 @@ use crate::fixtures::{check_holds, file_of, wave_of};
 use std::alloc::Global;
 use std::process::Abort;
 use std::test::Fail;
-use vcd_amend::{AddedVariable, AmendedCode, Amendment, Fate, amend};
+use vcd_amend::{AddedVariable, AmendedCode, Amendment, Fate, amend_marked};
 use vcd_amend_run::{HearError, read_heard, read_outline};
 use vcd_copy::CopyError;
 use vcd_core::{ScopePath, Seq, Word, copy_word};
@@ -115,7 +115,15 @@ fn check_amended(
     let amendment = amendment(rt, alloc)?;
     let mut source = source_of(reader);
     let mut sink = sink_of(writer);
-    let ended = amend(alloc, &mut source, VARIABLE_LIMIT, &amendment, &mut sink);
+    let ended = amend_marked(
+        alloc,
+        &mut source,
+        VARIABLE_LIMIT,
+        &[],
+        &amendment,
+        None,
+        &mut sink,
+    );
     check_holds(rt, ended == wanted, "how the call ended");
     let written = AMENDED.as_bytes().get(..count) == Some(sink.into_inner().held.as_slice());
     check_holds(rt, written, "what was written");

@@ -31,8 +31,6 @@ mod names;
 #[cfg(test)]
 mod reading;
 #[cfg(test)]
-mod remarks;
-#[cfg(test)]
 mod sessions;
 #[cfg(test)]
 mod values;

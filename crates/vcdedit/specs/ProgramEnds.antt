@@ -1,26 +1,14 @@
--- How a run ends that the words of the command line ask for: its outcome, the exit status, and the
--- text on standard error. The rules are the project's own.
-use Rattle.std.specs.Prelude.{◌≡◌, ◌⊎◌, ℕ, false, List, [], Option, Some, None, IsSome, is_some}
-use Rattle.std.specs.Prelude.{Result, Ok, Err, codes}
+-- How a run ends that the words of the command line ask for. The rules are the project's own.
+use Rattle.std.specs.Prelude.{◌≡◌, ◌⊎◌, ℕ, false, Option, Some, None, IsSome, is_some}
+use Rattle.std.specs.Prelude.{Result, Err}
 use Rattle.vcd_core.specs.Devices.{DeviceEnd}
 use Rattle.vcd_text.specs.declared.fault.Fault.TheVariants as faults
 use Rattle.vcd_script.specs.declared.running.run_error.RunError.{RunError}
 use Rattle.vcd_script.specs.declared.running.run_error.RunError.TheVariants as run_errors
 use Rattle.vcd_script.specs.declared.running.run_error.Summary.{Summary}
 use Rattle.vcd_shell.specs.Opening.{default_script}
-use Rattle.vcd_shell.specs.Report.{done_status, run_error_report, run_error_status}
 use Rattle.vcdedit.specs.CommandLine.{AskedOptions}
 use Rattle.vcd_script.specs.RunEnds.{RunEnds}
-
--- the exit status of an outcome
-abbrev pub outcome_status : Result Summary RunError → ℕ
-outcome_status (Ok summary) = done_status summary.refused
-outcome_status (Err e) = run_error_status e
-
--- its text on standard error: none if the run was completed
-abbrev pub outcome_text : Result Summary RunError → List ℕ
-outcome_text (Ok summary) = []
-outcome_text (Err e) = run_error_report (codes "vcdedit") e
 
 -- why a run with these options does not begin: the capture can't be opened, or the script, if one
 -- is asked for; or there is no memory for the buffer of the replies

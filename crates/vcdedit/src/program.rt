@@ -17,7 +17,7 @@ use std::rt::Runtime;
 use vcd_core::{FromBytes, FromRead, Sink, Source, ToWrite};
 use vcd_journal::DEPTH_LIMIT;
 use vcd_script::{RunError, Summary, run};
-use vcd_shell::{DEFAULT_SCRIPT, LateFile, Program, done_status, open_capture, open_script};
+use vcd_shell::{DEFAULT_SCRIPT, LateFile, Program, open_capture, open_script};
 use vcd_text::{Fault, ReadError};
 
 /// How many bytes of replies are buffered before they are written.
@@ -37,31 +37,25 @@ pub struct Vcdedit;
 
 impl Program for Vcdedit {
     ghost use Rattle.std.specs.Prelude.{codes, refl};
+    ghost use Rattle.vcd_shell.specs.Report.{run_error_report, run_error_status};
     ghost use Rattle.vcdedit.specs.CommandLine.{asked_options, option_app};
-    ghost use Rattle.vcdedit.specs.ProgramEnds.{outcome_status, outcome_text};
 
-    type Outcome = Result<Summary, RunError>;
+    type Error = RunError;
 
     ghost name = { codes "vcdedit" };
-
-    ghost write_fault = { codes "replies: write fault" };
 
     ghost options = { option_app };
 
     ghost can_end = { λ words. IsOutcomeOfOptions (asked_options words) };
 
-    ghost status = { outcome_status };
+    ghost status = { run_error_status };
 
-    ghost text = { outcome_text };
+    ghost text = { run_error_report (codes "vcdedit") };
 
     ghost is_free = { refl };
 
     fn name() -> &'static [u8] {
         PROGRAM
-    }
-
-    fn write_fault() -> &'static [u8] {
-        b"replies: write fault"
     }
 
     fn command_line<'a>(alloc: Global) -> Result<Command<'a>, AllocError> {
@@ -75,11 +69,8 @@ impl Program for Vcdedit {
         run_options(rt, &options_of(matches))
     }
 
-    fn report<W: Sink>(outcome: &Result<Summary, RunError>, writer: &mut W) -> u8 {
-        match outcome {
-            Ok(summary) => done_status(summary),
-            Err(error) => report(error, writer),
-        }
+    fn report<W: Sink>(error: &RunError, writer: &mut W) -> u8 {
+        report(error, writer)
     }
 }
 

@@ -1,282 +1,369 @@
--- The words of bytes that have other words in place of theirs, and the text of an amended file, which means the
--- amended capture.
-use Rattle.std.proofs.Common.{◌≡◌, ◌+◌, ◌∙◌, ◌==◌, ℕ, Bool, true, false, List, [], ◌∷◌, ◌++◌, refl, length, ap, sym}
-use Rattle.std.proofs.Common.{arith, inl, inr, if◌then◌else◌, drop, ◌<◌, All, IsTrue, map, append_assoc, not}
-use Rattle.std.specs.List.{list_all, flat_map}
-use Rattle.std.proofs.lemmas.Bool.{and_parts, and_from, cases_Bool, eqb-true}
-use Rattle.std.proofs.lemmas.List.{map-append, length-append, append-nil}
-use Rattle.std.specs.Prelude.{count_by}
+-- The pieces of an amended text, which are cut from it: their items are the amended items, so it means the amended
+-- capture.
+use Rattle.std.proofs.Common.{◌≡◌, ◌∙◌, ℕ, ◌+◌, ◌<◌, ◌==◌, Bool, true, false, All, List, [], ◌∷◌, ◌++◌, map}
+use Rattle.std.proofs.Common.{length, refl}
+use Rattle.std.proofs.Common.{sym, ap, ap₂, subst, arith, append_assoc, drop, inl, inr, reverse, cond, if◌then◌else◌}
+use Rattle.std.specs.List.{flat_map, list_all, join_with_byte, prefix_len, suffix_len}
+use Rattle.std.proofs.lemmas.Bool.{and_parts, cases_Bool, false≢true}
+use Rattle.std.proofs.lemmas.List.{append-nil, map-append, reverse-append, length-reverse}
+use Rattle.std.proofs.lemmas.List.Elements.{All-nil, All-cons, All-head, All-tail, All-append, All-weaker, All-drop}
+use Rattle.std.proofs.lemmas.List.Folds.{prefix_len-append}
 use Rattle.std.proofs.lemmas.Grind.{flat_map-append}
-use Rattle.std.proofs.lemmas.List.Elements.{All-head, All-tail, All-weaker}
 use Rattle.vcd_core.specs.Word.{is_white_space}
-use Rattle.vcd_text.specs.inside.Words.{words_from, line_after, word_of}
-use Rattle.vcd_text.specs.Items.{Item, spelling, entry, timescale, scope, upscope, variable, end_definitions, stamp}
-use Rattle.vcd_text.specs.Items.{scalar, vector, real_or_string, dump_word, other, spellings}
-use Rattle.vcd_text.specs.Grammar.{word_texts, ParseState, initial_state, state_after, state_after_item, AllowsAll}
-use Rattle.vcd_text.specs.Grammar.{is_skipped}
-use Rattle.vcd_copy.specs.Pieces.{Piece}
-use Rattle.vcd_text.proofs.read_back.Words.{is_unbroken, is_spelled}
-use Rattle.vcd_copy.proofs.pieces.Bytes.{texts, texts_after, is_end, space_first, both_parts, joined_words, texts_are}
-use Rattle.vcd_copy.proofs.pieces.Bytes.{lines_first, lines_last}
-use Rattle.vcd_text.specs.Words.{words_of}
+use Rattle.std.specs.Prelude.{count_by, IsTrue}
+use Rattle.vcd_text.specs.Items.{Item, spelling, spellings}
+use Rattle.vcd_text.specs.Grammar.{ParseState, AllowsAll, state_after_item, state_after, initial_state, is_skipped}
 use Rattle.vcd_text.specs.Meaning.{FileMeans}
+use Rattle.vcd_copy.proofs.shared.SpelledItems.{cut_spells_items}
 use Rattle.vcd_text.specs.Text.{item_line}
-use Rattle.vcd_text.proofs.shared.WordsByBytes.{texts_of_file_are_runs}
-use Rattle.vcd_text.proofs.shared.WordsInTurn.{is_run_text}
-use Rattle.vcd_text.proofs.shared.ItemTests.{all_weaker}
-use Rattle.vcd_amend.specs.AmendedText.{next_word, with_words, exchanged_bytes, bytes_in_place, amended_text}
-use Rattle.vcd_amend.specs.AmendedText.{AmendedTextMeansAmendedCapture}
+use Rattle.vcd_text.proofs.read_back.Words.{is_unbroken, is_spelled}
+use Rattle.vcd_copy.specs.Pieces.{Piece, IsCut, piece_bytes, state_of_pieces}
+use Rattle.vcd_copy.proofs.pieces.Bytes.{texts, texts_are, joined_words}
+use Rattle.vcd_copy.proofs.pieces.Cuts.{EndsInWord, ends_after, word_ends, begins_in_word, spelling_some, IsTight}
 use Rattle.vcd_amend.specs.Amendment.{Amendment}
-use Rattle.vcd_amend.specs.AmendedItems.{ItemFate, stands, is_left_out, is_exchanged, items_in_place, item_fate}
-use Rattle.vcd_amend.specs.AmendedItems.{inserted_items, items_due_at, still_none_yet, amended_items}
+use Rattle.vcd_amend.specs.AmendedItems.{ItemFate, stands, is_left_out, is_exchanged, item_fate, inserted_items}
+use Rattle.vcd_amend.specs.AmendedItems.{items_due_at, still_none_yet, items_in_place, amended_items}
 use Rattle.vcd_amend.specs.AmendedMeaning.{FitsFile, FitsAmendedCode, amended_meaning}
-use Rattle.vcd_amend.proofs.amended.Spelled.{items_at_spelled, inserted_spelled, IsSpelledFate, fate_spelled, IsAlone}
-use Rattle.vcd_amend.proofs.amended.Spelled.{left_out_alone, HasWord}
-use Rattle.vcd_amend.proofs.amended.Fitting.{fate_fits}
+use Rattle.vcd_amend.specs.AmendedText.{with_words, next_word, exchanged_bytes, bytes_in_place, amended_text}
+use Rattle.vcd_amend.specs.AmendedText.{AmendedTextMeansAmendedCapture}
 use Rattle.vcd_amend.proofs.amended.Whole.{amended_is_meant}
+use Rattle.vcd_amend.proofs.amended.Spelled.{IsSpelledFate, fate_spelled, IsAlone, left_out_alone, HasWord}
+use Rattle.vcd_amend.proofs.amended.Spelled.{items_at_spelled, inserted_spelled}
+use Rattle.vcd_amend.proofs.amended.Fitting.{fate_fits}
+use Rattle.vcd_amend.proofs.shared.Lists.{each_of_both}
+use Rattle.vcd_amend.proofs.amended.OtherWords.{starts, replaced_count, exchanged_are, exchanged_words, items_of}
+use Rattle.vcd_amend.proofs.amended.OtherWords.{HasSpace, SpellsItem, HasSomeSpace, body_is_unbroken}
 
--- ==== the words of bytes that have other words in place of theirs
+-- ==== both ends of bytes
 
--- ---- how many words there are
+abbrev Ends : List ℕ → Type 0
+Ends bytes = suffix_len is_white_space bytes ≡ 0
 
--- how many words begin in bytes
-abbrev starts : (in_word : Bool) → List ℕ → ℕ
-starts in_word [] = 0
-starts in_word (b ∷ bs) = if is_white_space b then starts false bs
-    else (if in_word then starts true bs else 1 + starts true bs)
+-- ---- words with a space between them
 
-abbrev has_begun : List ℕ → Bool
-has_begun [] = false
-has_begun (b ∷ bs) = true
+joined_end : (w : List ℕ) (ws : List (List ℕ)) → list_all is_unbroken (w ∷ ws) ≡ true
+    → EndsInWord (join_with_byte 32 (w ∷ ws))
+joined_end w [] unbroken = word_ends w (and_parts (is_unbroken w) true unbroken).0
+joined_end w (v ∷ ws) unbroken = ends_after w (32 ∷ join_with_byte 32 (v ∷ ws)) (ends_after (32 ∷ [])
+    (join_with_byte 32 (v ∷ ws)) (joined_end v ws (and_parts (is_unbroken w) (list_all is_unbroken (v ∷ ws))
+    unbroken).1))
 
-abbrev begun_count : Bool → ℕ
-begun_count true = 1
-begun_count false = 0
+joined_begin : (w : List ℕ) (ws : List (List ℕ)) → is_unbroken w ≡ true
+    → prefix_len is_white_space (join_with_byte 32 (w ∷ ws)) ≡ 0
+joined_begin w [] unbroken = ap (prefix_len is_white_space) (sym (append-nil w)) ∙ begins_in_word w [] unbroken
+joined_begin w (v ∷ ws) unbroken = begins_in_word w (32 ∷ join_with_byte 32 (v ∷ ws)) unbroken
 
-one_word_long : (begun : List ℕ) (line : ℕ) → length (word_texts (word_of begun line)) ≡ begun_count (has_begun begun)
-one_word_long [] line = refl
-one_word_long (b ∷ bs) line = refl
+joined_tight : (ws : List (List ℕ)) → 0 < length ws → list_all is_unbroken ws ≡ true
+    → (prefix_len is_white_space (join_with_byte 32 ws) ≡ 0) × Ends (join_with_byte 32 ws)
+joined_tight [] some unbroken = absurd (omega (arith, some))
+joined_tight (w ∷ ws) some unbroken = (
+  joined_begin w ws (and_parts (is_unbroken w) (list_all is_unbroken ws) unbroken).0,
+  (joined_end w ws unbroken).ends,
+)
 
-goes_on_begun : (begun : List ℕ) (b : ℕ) → has_begun (begun ++ b ∷ []) ≡ true
-goes_on_begun [] b = refl
-goes_on_begun (c ∷ cs) b = refl
+-- ---- words in the place of others
 
-either_count : (begun : Bool) (n : ℕ) → 1 + n ≡ begun_count begun + (if begun then n else 1 + n)
-either_count true n = refl
-either_count false n = omega arith
+rest_ends : (b : ℕ) (c : ℕ) (bs : List ℕ) → Ends (b ∷ c ∷ bs) → Ends (c ∷ bs)
+rest_ends b c bs ends =
+    let both = sym (prefix_len-append is_white_space (reverse (c ∷ bs)) (b ∷ [])) ∙ sym (ap (prefix_len is_white_space)
+    (reverse-append (b ∷ []) (c ∷ bs))) ∙ ends in
+    by_test (prefix_len is_white_space (reverse (c ∷ bs)) == length (reverse (c ∷ bs))) both
+  where
+    by_test : (all : Bool) → cond all (length (reverse (c ∷ bs)) + prefix_len is_white_space (b ∷ []))
+        (prefix_len is_white_space (reverse (c ∷ bs))) ≡ 0 → prefix_len is_white_space (reverse (c ∷ bs)) ≡ 0
+    by_test true is = absurd (omega (arith, is, length-reverse (c ∷ bs)))
+    by_test false is = is
 
-no_more : (n : ℕ) → 0 + n ≡ n
-no_more n = omega arith
+word_first : (w rest : List ℕ) → is_unbroken w ≡ true → Ends rest → EndsInWord (w ++ rest)
+word_first w [] unbroken ends = subst EndsInWord (sym (append-nil w)) (word_ends w unbroken)
+word_first w (b ∷ bs) unbroken ends = ends_after w (b ∷ bs) (record { some = omega arith; ends = ends })
 
-words_count : (begun : List ℕ) (line : ℕ) (bs : List ℕ)
-    → length (texts_after begun line bs) ≡ begun_count (has_begun begun) + starts (has_begun begun) bs
-unfolding words_from
-words_count begun line [] = one_word_long begun line ∙ omega arith
-words_count begun line (b ∷ bs) = elim (cases_Bool (is_white_space b)) [
-  | inl space ↦ rw space (ap length (map-append (λ w. w.text) (word_of begun line) (words_from true []
-      (line_after b line) bs)) ∙ length-append (word_texts (word_of begun line)) _ ∙ ap (λ n. n + length (texts_after []
-      (line_after b line) bs)) (one_word_long begun line) ∙ ap (λ n. begun_count (has_begun begun) + n) (words_count []
-      (line_after b line) bs
-      ∙ no_more (starts false bs)))
-  | inr goes_on ↦ rw goes_on (words_count (begun ++ b ∷ []) (line_after b line) bs ∙ ap (λ (h : Bool). begun_count h
-      + starts h bs) (goes_on_begun begun b) ∙ either_count (has_begun begun) (starts true bs))
-]
+-- after white space there are bytes
+abbrev EndAgain : (in_word : Bool) → List ℕ → List ℕ → Type 0
+EndAgain in_word bs made = (in_word ≡ false → 0 < length bs → 0 < length made) × Ends made
 
--- ---- other words
-
--- after a word the rest is at an end
-word_ends : (bs : List ℕ) (ws : List (List ℕ)) → is_end (with_words true bs ws) ≡ true
-word_ends [] ws = refl
-word_ends (b ∷ bs) ws = elim (cases_Bool (is_white_space b)) [
-  | inl space ↦ rw space space
-  | inr goes_on ↦ rw goes_on (word_ends bs ws)
-]
-
-other_words : (in_word : Bool) (bs : List ℕ) (ws : List (List ℕ)) → length ws ≡ starts in_word bs
-    → list_all is_unbroken ws ≡ true → texts (with_words in_word bs ws) ≡ ws
-unfolding words_from
-other_words in_word [] [] long unbroken = refl
-other_words in_word [] (w ∷ ws) long unbroken = absurd (omega (arith, long))
-other_words in_word (b ∷ bs) ws long unbroken = elim (cases_Bool (is_white_space b)) [
-  | inl space ↦
-      let rest = other_words false bs ws (rw space at long) unbroken in
-      rw space (space_first (b ∷ []) (with_words false bs ws) (and_from _ _ space refl) ∙ rest)
-  | inr goes_on ↦ rw goes_on (by_place in_word ws (rw goes_on at long) unbroken (other_words true bs))
+other_words_end : (in_word : Bool) (bs : List ℕ) (ws : List (List ℕ)) → length ws ≡ starts in_word bs
+    → list_all is_unbroken ws ≡ true → Ends bs → EndAgain in_word bs (with_words in_word bs ws)
+other_words_end in_word [] ws long unbroken ends = ((λ out some. some), refl)
+other_words_end in_word (b ∷ bs) ws long unbroken ends = elim (cases_Bool (is_white_space b)) [
+  | inl space ↦ rw space (after_space space bs (rw space at long) ends (λ is. other_words_end false bs ws is unbroken))
+  | inr goes_on ↦ rw goes_on (by_place in_word ws (rw goes_on at long) unbroken (other_words_end true bs))
 ]
   where
+    later : (bs : List ℕ) → Ends (b ∷ bs) → Ends bs
+    later [] ends = refl
+    later (c ∷ cs) ends = rest_ends b c cs ends
+
+    after_space : is_white_space b ≡ true → (cs : List ℕ) → length ws ≡ starts false cs → Ends (b ∷ cs)
+        → (length ws ≡ starts false cs → Ends cs → EndAgain false cs (with_words false cs ws))
+        → EndAgain in_word (b ∷ cs) (b ∷ with_words false cs ws)
+    after_space space [] long ends again =
+        let never : 1 ≡ 0 = rw space at ends in absurd (omega (arith, never))
+    after_space space (c ∷ cs) long ends again =
+        let rest = again long (rest_ends b c cs ends) in (
+          (λ out some. omega arith),
+          (ends_after (b ∷ []) (with_words false (c ∷ cs) ws) (record {
+            some = rest.0 refl (omega arith);
+            ends = rest.1;
+          })).ends,
+        )
+
     by_place : (in_word : Bool) (ws : List (List ℕ)) → length ws ≡ (if in_word then starts true bs else 1 + starts true
-        bs)
-        → list_all is_unbroken ws ≡ true
-        → ((ws : List (List ℕ)) → length ws ≡ starts true bs → list_all is_unbroken ws ≡ true
-        → texts (with_words true bs ws) ≡ ws)
-        → texts (if in_word then with_words true bs ws else next_word ws ++ with_words true bs (drop 1 ws)) ≡ ws
-    by_place true ws long unbroken again = again ws long unbroken
+        bs) → list_all is_unbroken ws ≡ true
+        → ((ws : List (List ℕ)) → length ws ≡ starts true bs → list_all is_unbroken ws ≡ true → Ends bs
+        → EndAgain true bs (with_words true bs ws))
+        → EndAgain in_word (b ∷ bs) (if in_word then with_words true bs ws else next_word ws ++ with_words true bs
+        (drop 1 ws))
+    by_place true ws long unbroken again = (
+      (λ out some. absurd (false≢true (sym out))),
+      (again ws long unbroken
+          (later bs ends)).1,
+    )
     by_place false [] long unbroken again = absurd (omega (arith, long))
     by_place false (w ∷ ws) long unbroken again =
         let parts = and_parts (is_unbroken w) (list_all is_unbroken ws) unbroken in
-        both_parts w (with_words true bs ws) (word_ends bs ws) ∙ ap (λ l. l ++ texts (with_words true bs ws))
-        (joined_words (w ∷ []) (and_from _ _ parts.0 refl)) ∙ ap (λ l. w ∷ l) (again ws (omega (arith, long)) parts.1)
+        let both = word_first w (with_words true bs ws) parts.0 (again ws (omega (arith, long)) parts.1 (later bs
+        ends)).1 in
+        ((λ out some. both.some), both.ends)
 
--- the words of another item in the place of a piece
-pub exchanged_words : (p : Piece) (j : Item) → texts p.body ≡ spelling p.item → is_spelled j ≡ true
-    → texts (exchanged_bytes p j) ≡ spelling j
-exchanged_words p (entry kind words) is spelled = joined_words (spelling (entry kind words)) spelled
-exchanged_words p (timescale words) is spelled = joined_words (spelling (timescale words)) spelled
-exchanged_words p (scope kind words) is spelled = joined_words (spelling (scope kind words)) spelled
-exchanged_words p upscope is spelled = joined_words (spelling upscope) spelled
-exchanged_words p (variable words) is spelled = elim (cases_Bool (length (spelling (variable words)) == length (spelling
-    p.item))) [
-      | inl same ↦ rw same (other_words false p.body (spelling (variable words)) (eqb-true (length
-          (spelling (variable words))) (length (spelling p.item)) same ∙ ap length (sym is) ∙ words_count [] 1 p.body ∙
-          omega arith) spelled)
-      | inr apart ↦ rw apart (joined_words (spelling (variable words)) spelled)
-    ]
-exchanged_words p end_definitions is spelled = joined_words (spelling end_definitions) spelled
-exchanged_words p (stamp digits) is spelled = joined_words (spelling (stamp digits)) spelled
-exchanged_words p (scalar digit code) is spelled = joined_words (spelling (scalar digit code)) spelled
-exchanged_words p (vector first digits code) is spelled = joined_words (spelling (vector first digits code)) spelled
-exchanged_words p (real_or_string first text code) is spelled =
-    joined_words (spelling (real_or_string first text code)) spelled
-exchanged_words p (dump_word word) is spelled = joined_words (spelling (dump_word word)) spelled
-exchanged_words p (other word words) is spelled = joined_words (spelling (other word words)) spelled
+other_words_begin : (bs : List ℕ) (ws : List (List ℕ)) → length ws ≡ starts false bs → list_all is_unbroken ws ≡ true
+    → prefix_len is_white_space bs ≡ 0 → prefix_len is_white_space (with_words false bs ws) ≡ 0
+other_words_begin [] ws long unbroken begins = refl
+other_words_begin (b ∷ bs) ws long unbroken begins = elim (cases_Bool (is_white_space b)) [
+  | inl space ↦ absurd (omega (arith, rw space at begins))
+  | inr goes_on ↦ rw goes_on (by_words ws (rw goes_on at long) unbroken)
+]
+  where
+    by_words : (ws : List (List ℕ)) → length ws ≡ 1 + starts true bs → list_all is_unbroken ws ≡ true
+        → prefix_len is_white_space (next_word ws ++ with_words true bs (drop 1 ws)) ≡ 0
+    by_words [] long unbroken = absurd (omega (arith, long))
+    by_words (w ∷ ws) long unbroken = begins_in_word w (with_words true bs ws)
+        (and_parts (is_unbroken w) (list_all is_unbroken ws) unbroken).0
 
--- ==== the text of an amended file means the amended capture
+-- ==== the pieces
 
--- ---- one piece
+-- a line of an item, and a piece after lines
+abbrev pub line_piece : (space : List ℕ) → Item → Piece
+line_piece space i = record { item = i; space = space; body = join_with_byte 32 (spelling i) }
 
--- a run of bytes is an unbroken word
-run_is_unbroken : (w : List ℕ) → is_run_text w ≡ true → is_unbroken w ≡ true
-run_is_unbroken [] run = run
-run_is_unbroken (b ∷ bs) run = (and_parts (not (length (b ∷ bs) == 0)) (list_all (λ b. not (is_white_space b)) (b ∷ bs))
-    run).1
+abbrev pub after_line : Piece → Piece
+after_line p = record p { space = 10 ∷ [] }
 
--- the words of bytes are unbroken
-pub body_is_unbroken : (p : Piece) → word_texts (words_of p.body) ≡ spelling p.item → is_spelled p.item ≡ true
-body_is_unbroken p is = ap (list_all is_unbroken) (sym is) ∙ all_weaker is_run_text is_unbroken run_is_unbroken
-    (word_texts (words_of p.body)) (texts_of_file_are_runs p.body)
+abbrev pub lines_before : List Item → Piece → List Piece
+lines_before [] p = p ∷ []
+lines_before (i ∷ is) p = line_piece p.space i ∷ lines_before is (after_line p)
 
--- lines of items, and bytes with these words, after white space
-module _ (lines : List Item) (p : Piece) (rest : List ℕ) (spelled : list_all is_spelled lines ≡ true)
-    (space : list_all is_white_space p.space ≡ true) (ends : is_end rest ≡ true) where
-  with_lines : (body : List ℕ) (words : List (List ℕ)) → texts body ≡ words
-      → texts ((p.space ++ (flat_map item_line lines ++ body)) ++ rest) ≡ (spellings lines ++ words) ++ texts rest
-  with_lines body words is = ap texts (append_assoc p.space (flat_map item_line lines ++ body) rest)
-      ∙ space_first p.space _ space ∙ ap texts (append_assoc (flat_map item_line lines) body rest) ∙ lines_first lines
-      (body ++ rest) spelled
-      ∙ ap (λ ws. spellings lines ++ ws) (both_parts body rest ends ∙ ap (λ ws. ws ++ texts rest) is)
-      ∙ sym (append_assoc (spellings lines) words (texts rest))
+-- another item in the place of a piece
+abbrev pub other_piece : Piece → Item → Piece
+other_piece p j = record { item = j; space = p.space; body = exchanged_bytes p j }
 
-  -- the words of what stands in the place of a piece
-  piece_words : (o : ItemFate) → IsSpelledFate o → IsAlone o lines → texts p.body ≡ spelling p.item
-      → texts (bytes_in_place o (flat_map item_line lines) p ++ rest)
-      ≡ spellings (lines ++ items_in_place o p.item) ++ texts rest
-  piece_words stands o_spelled alone is = with_lines p.body (spelling p.item) is ∙ ap (λ ws. ws ++ texts rest) (sym
-      (flat_map-append spelling lines (p.item ∷ []) ∙ ap (λ ws. spellings lines ++ ws) (append-nil (spelling p.item))))
-  piece_words is_left_out o_spelled alone is =
-      rw alone refl
-  piece_words (is_exchanged j) o_spelled alone is = with_lines (exchanged_bytes p j) (spelling j)
-      (exchanged_words p j is o_spelled) ∙ ap (λ ws. ws ++ texts rest) (sym (flat_map-append spelling lines (j ∷ []) ∙
-      ap (λ ws. spellings lines ++ ws) (append-nil (spelling j))))
+abbrev pub placed : ItemFate → List Item → Piece → List Piece
+placed stands lines p = lines_before lines p
+placed is_left_out lines p = []
+placed (is_exchanged j) lines p = other_piece p j ∷ []
 
--- white space comes first
-space_ends : (space rest : List ℕ) → 0 < length space → list_all is_white_space space ≡ true → is_end (space ++ rest)
-    ≡ true
-space_ends [] rest some all = absurd (omega arith)
-space_ends (b ∷ bs) rest some all = (and_parts (is_white_space b) (list_all is_white_space bs) all).0
+abbrev pub made : Amendment → (none_yet : Bool) → ParseState → List Piece → List Piece
+made a none_yet s [] = map (line_piece (10 ∷ [])) (items_due_at a s s.tick)
+made a none_yet s (p ∷ ps) = placed (item_fate a s p.item) (inserted_items a none_yet s p.item) p
+    ++ made a (still_none_yet none_yet (item_fate a s p.item) p.item) (state_after_item s p.item) ps
 
-piece_ends : (o : ItemFate) (lines : List Item) (p : Piece) (rest : List ℕ) → IsAlone o lines → 0 < length p.space
-    → list_all is_white_space p.space ≡ true → is_end rest ≡ true
-    → is_end (bytes_in_place o (flat_map item_line lines) p ++ rest) ≡ true
-piece_ends stands lines p rest alone some all ends = rw (append_assoc p.space (flat_map item_line lines ++ p.body) rest)
-    (space_ends p.space _ some all)
-piece_ends is_left_out lines p rest alone some all ends = rw alone ends
-piece_ends (is_exchanged j) lines p rest alone some all ends = rw (append_assoc p.space (flat_map item_line lines
-    ++ exchanged_bytes p j) rest) (space_ends p.space _ some all)
+-- ---- their bytes
 
--- ---- all pieces
+line_bytes : (lines : List Item) (p : Piece) → piece_bytes (lines_before lines p)
+    ≡ p.space ++ (flat_map item_line lines ++ p.body)
+line_bytes [] p = append-nil (p.space ++ p.body)
+line_bytes (i ∷ is) p =
+    let words : List ℕ = join_with_byte 32 (spelling i) in
+    let rest : List ℕ = flat_map item_line is ++ p.body in
+    ap (λ l. (p.space ++ words) ++ l) (line_bytes is (after_line p)) ∙ append_assoc p.space words (10 ∷ rest)
+    ∙ ap (λ l. p.space ++ l) (sym (append_assoc (words ++ 10 ∷ []) (flat_map item_line is) p.body
+    ∙ append_assoc words (10 ∷ []) rest))
 
--- the items of pieces
-abbrev pub items_of : List Piece → List Item
-items_of ps = map (λ p. p.item) ps
+placed_bytes : (o : ItemFate) (lines : List Item) (p : Piece) → IsAlone o lines
+    → piece_bytes (placed o lines p) ≡ bytes_in_place o (flat_map item_line lines) p
+placed_bytes stands lines p alone = line_bytes lines p
+placed_bytes is_left_out lines p alone = sym (ap (flat_map item_line) alone)
+placed_bytes (is_exchanged j) lines p alone = append-nil (p.space ++ exchanged_bytes p j)
+    ∙ sym (ap (λ l. p.space ++ (flat_map item_line l ++ exchanged_bytes p j)) alone)
 
-abbrev pub HasSpace : Piece → Type 0
-HasSpace p = list_all is_white_space p.space ≡ true
+last_bytes : (items : List Item) → piece_bytes (map (line_piece (10 ∷ [])) items)
+    ≡ flat_map (λ i. 10 ∷ join_with_byte 32 (spelling i)) items
+last_bytes [] = refl
+last_bytes (i ∷ items) = ap (λ l. (10 ∷ join_with_byte 32 (spelling i)) ++ l) (last_bytes items)
 
-abbrev pub SpellsItem : Piece → Type 0
-SpellsItem p = word_texts (words_of p.body) ≡ spelling p.item
+made_bytes : (a : Amendment) (none_yet : Bool) (s : ParseState) (ps : List Piece) (tail : List ℕ)
+    → amended_text a none_yet s ps tail ≡ piece_bytes (made a none_yet s ps) ++ tail
+unfolding amended_text
+made_bytes a none_yet s [] tail = ap (λ l. l ++ tail) (sym (last_bytes (items_due_at a s s.tick)))
+made_bytes a none_yet s (p ∷ ps) tail =
+    let o : ItemFate = item_fate a s p.item in
+    let lines : List Item = inserted_items a none_yet s p.item in
+    let rest : List Piece = made a (still_none_yet none_yet o p.item) (state_after_item s p.item) ps in
+    ap₂ (λ x y. x ++ y) (sym (placed_bytes o lines p (left_out_alone a none_yet s p.item))) (made_bytes a
+    (still_none_yet none_yet o p.item) (state_after_item s p.item) ps tail)
+    ∙ sym (append_assoc (piece_bytes (placed o lines p)) (piece_bytes rest) tail)
+    ∙ ap (λ l. l ++ tail) (sym (flat_map-append (λ (q : Piece). q.space ++ q.body) (placed o lines p) rest))
 
-abbrev pub HasSomeSpace : Piece → Type 0
-HasSomeSpace p = 0 < length p.space
+-- ---- what holds of each of them
 
-module _ (a : Amendment) (final : ParseState) (fit : FitsFile a final) (tail : List ℕ)
-    (space_last : list_all is_white_space tail ≡ true) where
-  words : All HasWord a.codes
-  words = All-weaker (FitsAmendedCode a final) HasWord (λ c fits. fits.word) a.codes fit.codes
+module _ (P : Piece → Type 0) (line : (p : Piece) (i : Item) → is_spelled i ≡ true → P p → P (line_piece p.space i))
+    (after : (p : Piece) → P p → P (after_line p))
+    (other : (p : Piece) (j : Item) → is_spelled j ≡ true → P p → P (other_piece p j))
+    (last : (i : Item) → is_spelled i ≡ true → P (line_piece (10 ∷ []) i)) where
+  all_before : (lines : List Item) (p : Piece) → list_all is_spelled lines ≡ true → P p → All P (lines_before lines p)
+  all_before [] p spelled is = All-cons P p [] is (All-nil P)
+  all_before (i ∷ lines) p spelled is =
+      let parts = and_parts (is_spelled i) (list_all is_spelled lines) spelled in
+      All-cons P (line_piece p.space i) _ (line p i parts.0 is) (all_before lines (after_line p) parts.1 (after p is))
 
-  -- what comes last
-  last_words : (none_yet : Bool) (s : ParseState) → (texts (amended_text a none_yet s [] tail)
-      ≡ spellings (amended_items a none_yet s []))
-      × (is_end (amended_text a none_yet s [] tail) ≡ true)
-  unfolding amended_text amended_items
-  last_words none_yet s = lines_last (items_due_at a s s.tick) tail (items_at_spelled a s s.tick words) space_last
+  all_placed : (o : ItemFate) (lines : List Item) (p : Piece) → list_all is_spelled lines ≡ true → IsSpelledFate o
+      → P p → All P (placed o lines p)
+  all_placed stands lines p spelled in_it is = all_before lines p spelled is
+  all_placed is_left_out lines p spelled in_it is = All-nil P
+  all_placed (is_exchanged j) lines p spelled in_it is = All-cons P (other_piece p j) [] (other p j in_it is)
+      (All-nil P)
 
-  -- the rest is at an end of words
-  text_ends : (none_yet : Bool) (s : ParseState) (ps : List Piece) → All HasSomeSpace ps → All HasSpace ps
-      → is_end (amended_text a none_yet s ps tail) ≡ true
-  unfolding amended_text
-  text_ends none_yet s [] some spaces = (last_words none_yet s).1
-  text_ends none_yet s (p ∷ ps) some spaces = piece_ends (item_fate a s p.item) (inserted_items a none_yet s p.item) p
-      (amended_text a (still_none_yet none_yet (item_fate a s p.item) p.item) (state_after_item s p.item) ps tail)
-      (left_out_alone a none_yet s p.item) (All-head HasSomeSpace p ps some) (All-head HasSpace p ps spaces) (text_ends
-      (still_none_yet none_yet (item_fate a s p.item) p.item) (state_after_item s p.item) ps (All-tail HasSomeSpace p ps
-      some) (All-tail HasSpace p ps spaces))
+  all_last : (items : List Item) → list_all is_spelled items ≡ true → All P (map (line_piece (10 ∷ [])) items)
+  all_last [] spelled = All-nil P
+  all_last (i ∷ items) spelled =
+      let parts = and_parts (is_spelled i) (list_all is_spelled items) spelled in
+      All-cons P (line_piece (10 ∷ []) i) _ (last i parts.0) (all_last items parts.1)
 
-  text_words : (none_yet : Bool) (s : ParseState) (ps : List Piece) → All HasSomeSpace (drop 1 ps) → All HasSpace ps
-      → All SpellsItem ps
-      → AllowsAll s (items_of ps) → texts (amended_text a none_yet s ps tail) ≡ spellings (amended_items a none_yet s
-      (items_of ps))
-  unfolding amended_text amended_items
-  text_words none_yet s [] some spaces bodies allows = (last_words none_yet s).0
-  text_words none_yet s (p ∷ ps) some spaces bodies allows =
-      let t : ParseState = state_after_item s p.item in
-      let body = All-head SpellsItem p ps bodies in
-      let spelled = body_is_unbroken p body in
-      let lines = inserted_spelled a none_yet final s p.item allows.0 words fit.added in
-      let in_it = fate_spelled a s p.item spelled words (fate_fits a final fit) in
-      let ends = text_ends (still_none_yet none_yet (item_fate a s p.item) p.item) t ps some
-      (All-tail HasSpace p ps spaces) in
-      let here = piece_words (inserted_items a none_yet s p.item) p (amended_text a (still_none_yet none_yet
-      (item_fate a s p.item) p.item) t ps tail) lines (All-head HasSpace p ps spaces) ends (item_fate a s p.item) in_it
-      (left_out_alone a none_yet s p.item) (sym (texts_are p.body) ∙ body) in
-      let rest = text_words (still_none_yet none_yet (item_fate a s p.item) p.item) t ps (later ps some)
-      (All-tail HasSpace p ps spaces) (All-tail SpellsItem p ps bodies) allows.1 in
-      here ∙ ap (λ ws. spellings (inserted_items a none_yet s p.item ++ items_in_place (item_fate a s p.item) p.item)
-      ++ ws) rest ∙ sym (flat_map-append spelling (inserted_items a none_yet s p.item ++ items_in_place (item_fate a s
-      p.item) p.item) (amended_items a (still_none_yet none_yet (item_fate a s p.item) p.item) t (items_of ps)))
+  module _ (a : Amendment) (final : ParseState) (fit : FitsFile a final) where
+    words : All HasWord a.codes
+    words = All-weaker (FitsAmendedCode a final) HasWord (λ c fits. fits.word) a.codes fit.codes
+
+    all_made : (none_yet : Bool) (s : ParseState) (ps : List Piece) → AllowsAll s (items_of ps) → All SpellsItem ps
+        → All P ps → All P (made a none_yet s ps)
+    all_made none_yet s [] allows bodies all = all_last (items_due_at a s s.tick) (items_at_spelled a s s.tick words)
+    all_made none_yet s (p ∷ ps) allows bodies all = All-append P _ _ (all_placed (item_fate a s p.item) (inserted_items
+        a none_yet s p.item) p (inserted_spelled a none_yet final s p.item allows.0 words fit.added) (fate_spelled a s
+        p.item (body_is_unbroken p (All-head SpellsItem p ps bodies)) words (fate_fits a final fit)) (All-head P p ps
+        all)) (all_made (still_none_yet none_yet (item_fate a s p.item) p.item) (state_after_item s p.item) ps allows.1
+        (All-tail SpellsItem p ps bodies) (All-tail P p ps all))
+
+-- ---- a cut
+
+item_tight : (i : Item) → is_spelled i ≡ true → (prefix_len is_white_space (join_with_byte 32 (spelling i)) ≡ 0)
+    × Ends (join_with_byte 32 (spelling i))
+item_tight i spelled =
+    let some = spelling_some i in
+    joined_tight (spelling i) (subst (λ l. 0 < length l) (sym some.2) (omega arith)) spelled
+
+line_spells : (space : List ℕ) (i : Item) → is_spelled i ≡ true → SpellsItem (line_piece space i)
+line_spells space i spelled = texts_are (join_with_byte 32 (spelling i)) ∙ joined_words (spelling i) spelled
+
+-- a tight body that spells its item
+abbrev IsBody : Piece → Type 0
+IsBody p = SpellsItem p × IsTight p
+
+other_is_body : (p : Piece) (j : Item) → is_spelled j ≡ true → IsBody p → IsBody (other_piece p j)
+other_is_body p j spelled (spells, tight) =
+    let is : texts p.body ≡ spelling p.item = sym (texts_are p.body) ∙ spells in (
+      texts_are (exchanged_bytes p j) ∙ exchanged_words p j is spelled,
+      exchanged_are (λ bytes. (prefix_len is_white_space bytes ≡ 0) × Ends bytes) p j (item_tight j spelled) (λ same. (
+        other_words_begin p.body (spelling j) (replaced_count p (spelling j) is same) spelled tight.0,
+        (other_words_end false p.body (spelling j) (replaced_count p (spelling j) is same) spelled tight.1).1,
+      )),
+    )
+
+module _ (a : Amendment) (final : ParseState) (fit : FitsFile a final) where
+  bodies_made : (none_yet : Bool) (s : ParseState) (ps : List Piece) → AllowsAll s (items_of ps) → All SpellsItem ps
+      → All IsBody ps → All IsBody (made a none_yet s ps)
+  bodies_made = all_made IsBody (λ p i spelled is. (line_spells p.space i spelled, item_tight i spelled)) (λ p is. is)
+      other_is_body (λ i spelled. (line_spells (10 ∷ []) i spelled, item_tight i spelled)) a final fit
+
+  spaces_made : (none_yet : Bool) (s : ParseState) (ps : List Piece) → AllowsAll s (items_of ps) → All SpellsItem ps
+      → All HasSpace ps → All HasSpace (made a none_yet s ps)
+  spaces_made = all_made HasSpace (λ p i spelled is. is) (λ p is. refl) (λ p j spelled is. is) (λ i spelled. refl) a
+      final fit
+
+  some_before : (lines : List Item) (p : Piece) → list_all is_spelled lines ≡ true → HasSomeSpace p
+      → All HasSomeSpace (lines_before lines p)
+  some_before = all_before HasSomeSpace (λ p i spelled is. is) (λ p is. omega arith) (λ p j spelled is. is)
+      (λ i spelled. omega arith)
+
+  some_made : (none_yet : Bool) (s : ParseState) (ps : List Piece) → AllowsAll s (items_of ps) → All SpellsItem ps
+      → All HasSomeSpace ps → All HasSomeSpace (made a none_yet s ps)
+  some_made = all_made HasSomeSpace (λ p i spelled is. is) (λ p is. omega arith) (λ p j spelled is. is)
+      (λ i spelled. omega arith) a final fit
+
+  apart_made : (none_yet : Bool) (s : ParseState) (ps : List Piece) → AllowsAll s (items_of ps) → All SpellsItem ps
+      → All HasSomeSpace (drop 1 ps) → All HasSomeSpace (drop 1 (made a none_yet s ps))
+  apart_made none_yet s [] allows bodies some = All-drop HasSomeSpace 1 _ (some_made none_yet s [] allows bodies some)
+  apart_made none_yet s (p ∷ ps) allows bodies some = by_fate (item_fate a s p.item) (inserted_items a none_yet s
+      p.item) (inserted_spelled a none_yet final s p.item allows.0 (All-weaker (FitsAmendedCode a final) HasWord
+      (λ c fits. fits.word) a.codes fit.codes) fit.added) _ (some_made (still_none_yet none_yet (item_fate a s p.item)
+      p.item) (state_after_item s p.item) ps allows.1 (All-tail SpellsItem p ps bodies) some)
     where
-      later : (ps : List Piece) → All HasSomeSpace ps → All HasSomeSpace (drop 1 ps)
-      later [] some = some
-      later (p ∷ ps) some = All-tail HasSomeSpace p ps some
+      by_fate : (o : ItemFate) (lines : List Item) → list_all is_spelled lines ≡ true → (rest : List Piece)
+          → All HasSomeSpace rest → All HasSomeSpace (drop 1 (placed o lines p ++ rest))
+      by_fate stands [] spelled rest all = all
+      by_fate stands (i ∷ lines) spelled rest all = All-append HasSomeSpace _ _ (some_before lines (after_line p)
+          (and_parts (is_spelled i) (list_all is_spelled lines) spelled).1 (omega arith)) all
+      by_fate is_left_out lines spelled rest all = All-drop HasSomeSpace 1 rest all
+      by_fate (is_exchanged j) lines spelled rest all = all
 
--- the text of pieces whose bodies spell their items, with white space between them
-pub text_of_pieces : (a : Amendment) (limit : ℕ) (pieces : List Piece) (tail : List ℕ) → All SpellsItem pieces
-    → All HasSpace pieces → All HasSomeSpace (drop 1 pieces) → list_all is_white_space tail ≡ true
-    → AllowsAll (initial_state limit) (items_of pieces) → IsTrue (state_after (initial_state limit) (items_of
-    pieces)).in_body → FitsFile a (state_after (initial_state limit) (items_of pieces))
-    → FileMeans limit (amended_text a true (initial_state limit) pieces tail) (amended_meaning a (state_after
-    (initial_state limit) (items_of pieces))) (count_by is_skipped (state_after (initial_state limit) (items_of
-    pieces)).declared)
-text_of_pieces a limit pieces tail bodies spaces apart end allows in_body fit =
-    let final : ParseState = state_after (initial_state limit) (items_of pieces) in
+  pub made_is_cut : (file : List ℕ) (s : ParseState) (ps : List Piece) (tail : List ℕ) → IsCut file ps tail
+      → AllowsAll s (items_of ps) → IsCut (amended_text a true s ps tail) (made a true s ps) tail
+  made_is_cut file s ps tail cut allows =
+      let bodies = bodies_made true s ps allows cut.spelled (each_of_both SpellsItem IsTight IsBody (λ p spells tight.
+      (spells, tight)) ps cut.spelled cut.tight) in
+      record {
+        whole = made_bytes a true s ps tail;
+        spelled = All-weaker IsBody SpellsItem (λ p both. both.0) _ bodies;
+        tight = All-weaker IsBody IsTight (λ p both. both.1) _ bodies;
+        spaces = spaces_made true s ps allows cut.spelled cut.spaces;
+        apart = apart_made true s ps allows cut.spelled cut.apart;
+        end = cut.end;
+      }
+
+-- ==== the text means the amended capture
+
+-- ---- the items
+
+items_before : (lines : List Item) (p : Piece) → items_of (lines_before lines p) ≡ lines ++ p.item ∷ []
+items_before [] p = refl
+items_before (i ∷ lines) p = ap (λ l. i ∷ l) (items_before lines (after_line p))
+
+items_placed : (o : ItemFate) (lines : List Item) (p : Piece) → IsAlone o lines
+    → items_of (placed o lines p) ≡ lines ++ items_in_place o p.item
+items_placed stands lines p alone = items_before lines p
+items_placed is_left_out lines p alone = sym (ap (λ l. l ++ []) alone)
+items_placed (is_exchanged j) lines p alone = sym (ap (λ l. l ++ j ∷ []) alone)
+
+items_last : (items : List Item) → items_of (map (line_piece (10 ∷ [])) items) ≡ items
+items_last [] = refl
+items_last (i ∷ items) = ap (λ l. i ∷ l) (items_last items)
+
+made_items : (a : Amendment) (none_yet : Bool) (s : ParseState) (ps : List Piece)
+    → items_of (made a none_yet s ps) ≡ amended_items a none_yet s (items_of ps)
+unfolding amended_items
+made_items a none_yet s [] = items_last (items_due_at a s s.tick)
+made_items a none_yet s (p ∷ ps) =
+    let o : ItemFate = item_fate a s p.item in
+    let lines : List Item = inserted_items a none_yet s p.item in
+    map-append (λ (q : Piece). q.item) (placed o lines p) _ ∙ ap₂ (λ x y. x ++ y)
+    (items_placed o lines p (left_out_alone a none_yet s p.item))
+    (made_items a (still_none_yet none_yet o p.item) (state_after_item s p.item) ps)
+
+-- ---- the law
+
+pub text_of_pieces : (a : Amendment) (limit : ℕ) (file : List ℕ) (pieces : List Piece) (tail : List ℕ)
+    → IsCut file pieces tail → AllowsAll (initial_state limit) (items_of pieces)
+    → IsTrue (state_of_pieces limit pieces).in_body → FitsFile a (state_of_pieces limit pieces)
+    → FileMeans limit (amended_text a true (initial_state limit) pieces tail)
+    (amended_meaning a (state_of_pieces limit pieces)) (count_by is_skipped (state_of_pieces limit pieces).declared)
+text_of_pieces a limit file pieces tail cut allows in_body fit =
     let means = amended_is_meant a limit (items_of pieces) allows in_body fit in
     let items : List Item = amended_items a true (initial_state limit) (items_of pieces) in
-    let text : List ℕ = amended_text a true (initial_state limit) pieces tail in
     record {
       state = state_after (initial_state limit) items;
       accepted = record {
         items = items;
-        spelled = texts_are text ∙ text_words a final fit tail end true (initial_state limit) pieces apart spaces bodies
-            allows;
+        spelled = cut_spells_items (amended_text a true (initial_state limit) pieces tail) (made a true (initial_state
+            limit) pieces) tail (made_is_cut a (state_of_pieces limit pieces) fit file (initial_state limit) pieces tail
+            cut allows) ∙ ap spellings (made_items a true (initial_state limit) pieces);
         allowed = means.allowed;
         state_is = refl;
         definitions_ended = means.in_body;
@@ -287,4 +374,4 @@ text_of_pieces a limit pieces tail bodies spaces apart end allows in_body fit =
 
 pub amended_text_is_meant : AmendedTextMeansAmendedCapture
 amended_text_is_meant a limit file pieces tail cut allows in_body fit =
-    text_of_pieces a limit pieces tail cut.spelled cut.spaces cut.apart cut.end allows in_body fit
+    text_of_pieces a limit file pieces tail cut allows in_body fit

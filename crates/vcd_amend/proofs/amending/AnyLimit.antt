@@ -10,7 +10,6 @@ use Rattle.vcd_copy.specs.Copied.{IsCopy}
 use Rattle.vcd_amend.specs.Amendment.{Amendment}
 use Rattle.vcd_amend.specs.AmendedItems.{item_fate, inserted_items, still_none_yet}
 use Rattle.vcd_amend.specs.AmendedText.{amended_text, bytes_in_place}
-use Rattle.vcd_amend.specs.AmendedCopy.{amendment_rules, IsAmended}
 use Rattle.vcd_amend.proofs.amended.CopiedText.{copy_is_amended_text}
 use Rattle.vcd_copy.proofs.shared.StatesOfPieces.{at_limit, item_at_limit}
 
@@ -60,16 +59,3 @@ text_at a none n s (p ∷ ps) tail =
     ++ amended_text a (still_none_yet none (fate j) p.item) (state j) ps tail)
     ∙ ap (λ l. bytes ++ l) (text_at a (still_none_yet none (item_fate a s p.item) p.item) n (state_after_item s p.item)
     ps tail)
-
--- the copy of a file by the rules is the amended file
-pub copy_is_amended : (limit : ℕ) (a : Amendment) (file text : List ℕ) → IsCopy limit (amendment_rules a 0) file text
-    → IsAmended limit a file text
-copy_is_amended limit a file text copy = record {
-  pieces = copy.pieces;
-  tail = copy.tail;
-  cut = copy.cut;
-  allowed = copy.allowed;
-  in_body = copy.in_body;
-  is = copy.is ∙ copy_is_amended_text a 0 copy.pieces copy.tail
-      ∙ sym (text_at a true limit (initial_state 0) copy.pieces copy.tail);
-}

@@ -1,14 +1,14 @@
 -- The text of a file that is amended for another capture means that capture.
 use Rattle.std.proofs.Common.{◌≡◌, ℕ, ◌+◌, ◌≤◌, Bool, true, false, not, ◌∙◌, All, ◌&&◌, ◌||◌, ◌==◌, List, [], ◌∷◌, ◌++◌}
 use Rattle.std.proofs.Common.{length, Option, Some, None, IsTrue, if◌then◌else◌, refl, sym, ap, arith, inl, inr, subst}
-use Rattle.std.specs.Prelude.{bytes_eq, is_some, codes, drop, count_by}
+use Rattle.std.specs.Prelude.{bytes_eq, is_some, codes, count_by}
 use Rattle.std.specs.List.{list_all}
 use Rattle.std.specs.Option.{option_or}
 use Rattle.std.proofs.lemmas.Bool.{cases_Bool, false≢true, and_parts, and_from, eqb-true}
 use Rattle.std.proofs.lemmas.Option.{same_Some}
 use Rattle.std.proofs.lemmas.List.Elements.{All-nil, All-cons, All-head, All-tail, All-weaker, All-append}
 use Rattle.std.proofs.lemmas.List.Folds.{find-append}
-use Rattle.vcd_core.specs.Word.{is_word, is_white_space}
+use Rattle.vcd_core.specs.Word.{is_word}
 use Rattle.vcd_core.specs.Decimal.{number_of}
 use Rattle.vcd_core.specs.declared.bit.Bit.{Bit}
 use Rattle.vcd_core.specs.Contents.{SignalContents}
@@ -19,7 +19,7 @@ use Rattle.vcd_text.specs.Grammar.{ParseState, ValueChange, VariableDeclaration,
 use Rattle.vcd_text.specs.Grammar.{AllowsAll, state_after_item, state_after, initial_state, value_changes_after}
 use Rattle.vcd_text.specs.Grammar.{variable_of, kept_variables}
 use Rattle.vcd_text.specs.Meaning.{FileMeans, meaning}
-use Rattle.vcd_copy.specs.Pieces.{Piece}
+use Rattle.vcd_copy.specs.Pieces.{Piece, IsCut}
 use Rattle.vcd_text.proofs.shared.ItemTests.{has_declaration}
 use Rattle.vcd_text.proofs.part.FewSignals.{same_limit}
 use Rattle.vcd_text.proofs.read_back.Words.{is_unbroken, is_spelled}
@@ -27,12 +27,12 @@ use Rattle.vcd_amend.specs.Amendment.{first_with_code}
 use Rattle.vcd_amend.specs.AmendedMeaning.{class_of, FitsFile, amended_meaning}
 use Rattle.vcd_amend.specs.AmendedText.{amended_text}
 use Rattle.vcd_amend.specs.CodedAmendment.{AreAlike}
-use Rattle.vcd_amend.specs.GivenCodes.{AreSignalsOf, IsFileState, AmendedTextMeansOtherCapture, amendment_for}
+use Rattle.vcd_amend.specs.GivenCodes.{AreSignalsOf, IsFileState, amendment_for}
 use Rattle.vcd_amend.specs.GivenCodes.{signals_left}
 use Rattle.vcd_amend.specs.FreshCodes.{fresh_code}
 use Rattle.vcd_amend.proofs.amended.OneCode.{itself}
 use Rattle.vcd_amend.proofs.shared.Lists.{some_first}
-use Rattle.vcd_amend.proofs.amended.WholeText.{SpellsItem, HasSpace, HasSomeSpace, items_of, body_is_unbroken}
+use Rattle.vcd_amend.proofs.amended.OtherWords.{SpellsItem, items_of, body_is_unbroken}
 use Rattle.vcd_amend.proofs.amended.WholeText.{text_of_pieces}
 use Rattle.vcd_amend.proofs.given_codes.FreshCodes.{fresh_codes_are_fresh}
 use Rattle.vcd_amend.proofs.given_codes.Gives.{amendment_fits, signals_are}
@@ -204,10 +204,9 @@ state_of_file limit pieces allows spelled = all_state (initial_state limit) piec
 
 -- ---- the whole
 
-pub other_capture_of_pieces : (limit : ℕ) (pieces : List Piece) (tail : List ℕ)
+pub other_capture_of_pieces : (limit : ℕ) (file : List ℕ) (pieces : List Piece) (tail : List ℕ)
     (remaining : List (Option SignalContents)) (derived : List SignalContents) (final : ParseState)
-    → final ≡ state_after (initial_state limit) (items_of pieces) → All SpellsItem pieces → All HasSpace pieces
-    → All HasSomeSpace (drop 1 pieces) → list_all is_white_space tail ≡ true
+    → final ≡ state_after (initial_state limit) (items_of pieces) → IsCut file pieces tail
     → AllowsAll (initial_state limit) (items_of pieces)
     → IsTrue (state_after (initial_state limit) (items_of pieces)).in_body
     → AreSignalsOf final (kept_variables final.declared) remaining
@@ -215,9 +214,8 @@ pub other_capture_of_pieces : (limit : ℕ) (pieces : List Piece) (tail : List �
     → FileMeans limit (amended_text (amendment_for final remaining derived) true (initial_state limit) pieces
     tail)
     (record (meaning final) { signals = signals_left remaining ++ derived }) (count_by is_skipped final.declared)
-other_capture_of_pieces limit pieces tail remaining derived final is spelled spaces apart end allows in_body new
-    sound few =
-    let state : IsFileState final = subst IsFileState (sym is) (state_of_file limit pieces allows spelled) in
+other_capture_of_pieces limit file pieces tail remaining derived final is cut allows in_body new sound few =
+    let state : IsFileState final = subst IsFileState (sym is) (state_of_file limit pieces allows cut.spelled) in
     let limited : final.limit ≡ limit = ap (λ (t : ParseState). t.limit) is ∙ same_limit (initial_state limit) (items_of
     pieces) in
     let room : length (signals_left remaining) + length derived ≤ final.limit = omega (arith, few, limited) in
@@ -225,8 +223,8 @@ other_capture_of_pieces limit pieces tail remaining derived final is spelled spa
     let are_fresh = fresh_codes_are_fresh final in
     let fits = all_fit fresh final are_fresh state remaining derived new sound room in
     let fit = amendment_fits final _ _ _ fits in
-    let text = text_of_pieces (amendment_for final remaining derived) limit pieces tail spelled spaces apart end
-    allows in_body (subst (FitsFile (amendment_for final remaining derived)) is fit) in
+    let text = text_of_pieces (amendment_for final remaining derived) limit file pieces tail cut allows in_body
+    (subst (FitsFile (amendment_for final remaining derived)) is fit) in
     record {
       state = text.state;
       accepted = text.accepted;
@@ -235,8 +233,3 @@ other_capture_of_pieces limit pieces tail remaining derived final is spelled spa
           (amended_meaning (amendment_for final remaining derived)) is ∙ text.means;
       left_out = ap (λ (t : ParseState). count_by is_skipped t.declared) is ∙ text.left_out;
     }
-
-pub other_capture_is_meant : AmendedTextMeansOtherCapture
-other_capture_is_meant limit file pieces tail remaining derived cut allows in_body new sound few =
-    other_capture_of_pieces limit pieces tail remaining derived (state_after (initial_state limit)
-    (items_of pieces)) refl cut.spelled cut.spaces cut.apart cut.end allows in_body new sound few

@@ -14,7 +14,7 @@ use Rattle.std.specs.List.{list_any}
 use Rattle.vcd_amend.specs.Retimed.{ChangeKey, digits_key, text_key, change_key, code_of_key}
 use Rattle.vcd_amend.specs.Retimed.{counts_with, held_with, is_past, has_kept_variable}
 use Rattle.vcd_amend.specs.Retimed.{released_pieces, retimed_stamp, retimed_fate, pieces_in_place, retimed_pieces}
-use Rattle.vcd_amend.specs.RetimedLaws.{tick_after_item, is_stamp_of, is_neither}
+use Rattle.vcd_amend.specs.RetimedLaws.{tick_after_item, is_neither}
 use Rattle.vcd_amend.proofs.amended.OneCode.{same_bytes, bytes_turned, itself}
 
 -- ---- keys
@@ -125,7 +125,6 @@ at s vs n = record s { tick = n; value_changes = vs }
 pub record IsChange (i : Item) (key : ChangeKey) : Type 0 where
   pub is : change_key i ≡ Some key
   pub tick : (now : ℕ) → tick_after_item now i ≡ now
-  pub stamp : (t : ℕ) → is_stamp_of t i ≡ false
   pub neither : is_neither i ≡ false
   pub outcome : (c : ℕ → Bool) (s : ParseState) → retimed_fate c s i
       ≡ (if c s.tick then is_left_out else stands)
@@ -138,7 +137,6 @@ pub record IsChange (i : Item) (key : ChangeKey) : Type 0 where
 pub record IsStill (i : Item) : Type 0 where
   pub is : change_key i ≡ None
   pub tick : (now : ℕ) → tick_after_item now i ≡ now
-  pub stamp : (t : ℕ) → is_stamp_of t i ≡ false
   pub neither : is_neither i ≡ true
   pub outcome : (c : ℕ → Bool) (s : ParseState) → retimed_fate c s i ≡ stands
   pub past : (c : ℕ → Bool) (s : ParseState) → is_past c s i ≡ false
@@ -164,7 +162,6 @@ pub kind_of : (i : Item) → Kind i
 kind_of (entry kind words) = is_still (record {
   is = refl;
   tick = λ now. refl;
-  stamp = λ t. refl;
   neither = refl;
   outcome = λ c s. refl;
   past = λ c s. refl;
@@ -177,7 +174,6 @@ kind_of (entry kind words) = is_still (record {
 kind_of (timescale words) = is_still (record {
   is = refl;
   tick = λ now. refl;
-  stamp = λ t. refl;
   neither = refl;
   outcome = λ c s. refl;
   past = λ c s. refl;
@@ -190,7 +186,6 @@ kind_of (timescale words) = is_still (record {
 kind_of (scope kind words) = is_still (record {
   is = refl;
   tick = λ now. refl;
-  stamp = λ t. refl;
   neither = refl;
   outcome = λ c s. refl;
   past = λ c s. refl;
@@ -203,7 +198,6 @@ kind_of (scope kind words) = is_still (record {
 kind_of upscope = is_still (record {
   is = refl;
   tick = λ now. refl;
-  stamp = λ t. refl;
   neither = refl;
   outcome = λ c s. refl;
   past = λ c s. refl;
@@ -216,7 +210,6 @@ kind_of upscope = is_still (record {
 kind_of (variable words) = is_still (record {
   is = refl;
   tick = λ now. refl;
-  stamp = λ t. refl;
   neither = refl;
   outcome = λ c s. refl;
   past = λ c s. refl;
@@ -229,7 +222,6 @@ kind_of (variable words) = is_still (record {
 kind_of end_definitions = is_still (record {
   is = refl;
   tick = λ now. refl;
-  stamp = λ t. refl;
   neither = refl;
   outcome = λ c s. refl;
   past = λ c s. refl;
@@ -243,7 +235,6 @@ kind_of (stamp digits) = is_stamp digits refl
 kind_of (scalar digit code) = is_change (digits_key code) (record {
   is = refl;
   tick = λ now. refl;
-  stamp = λ t. refl;
   neither = refl;
   outcome = λ c s. refl;
   past = λ c s. refl;
@@ -254,7 +245,6 @@ kind_of (scalar digit code) = is_change (digits_key code) (record {
 kind_of (vector first digits code) = is_change (digits_key code) (record {
   is = refl;
   tick = λ now. refl;
-  stamp = λ t. refl;
   neither = refl;
   outcome = λ c s. refl;
   past = λ c s. refl;
@@ -265,7 +255,6 @@ kind_of (vector first digits code) = is_change (digits_key code) (record {
 kind_of (real_or_string first text code) = is_change (text_key code) (record {
   is = refl;
   tick = λ now. refl;
-  stamp = λ t. refl;
   neither = refl;
   outcome = λ c s. refl;
   past = λ c s. refl;
@@ -276,7 +265,6 @@ kind_of (real_or_string first text code) = is_change (text_key code) (record {
 kind_of (dump_word word) = is_still (record {
   is = refl;
   tick = λ now. refl;
-  stamp = λ t. refl;
   neither = refl;
   outcome = λ c s. refl;
   past = λ c s. refl;
@@ -289,7 +277,6 @@ kind_of (dump_word word) = is_still (record {
 kind_of (other word words) = is_still (record {
   is = refl;
   tick = λ now. refl;
-  stamp = λ t. refl;
   neither = refl;
   outcome = λ c s. refl;
   past = λ c s. refl;

@@ -3,8 +3,7 @@ use Rattle.std.proofs.Common.{◌≡◌, ℕ, ◌<◌, ◌≤◌, ◌∙◌, Boo
 use Rattle.std.proofs.Common.{arith, if◌then◌else◌, inl, inr, ◌&&◌, Option, Some, None, IsTrue, subst, append_assoc}
 use Rattle.std.proofs.Common.{decimal, All}
 use Rattle.std.specs.Prelude.{bytes_eq, is_some, codes}
-use Rattle.std.specs.List.{filter, list_any, Any}
-use Rattle.std.proofs.lemmas.List.Folds.{list_any-from_Any}
+use Rattle.std.specs.List.{filter, list_any}
 use Rattle.std.proofs.lemmas.Bool.{cases_Bool, false≢true, ltb-true, ltb-false}
 use Rattle.std.proofs.lemmas.List.Elements.{All-nil, All-cons, All-head, All-tail, All-append, All-filter}
 use Rattle.vcd_core.specs.Decimal.{number_of, is_number}
@@ -17,9 +16,9 @@ use Rattle.vcd_copy.specs.Pieces.{Piece, state_of_pieces}
 use Rattle.vcd_amend.specs.Retimed.{new_tick, AreOldTicks, ChangeKey, change_key, counts_with}
 use Rattle.vcd_amend.specs.Retimed.{code_of_key, lasts, has_kept_variable}
 use Rattle.vcd_amend.specs.Retimed.{held_with, is_past, released_pieces, retimed_stamp, pieces_in_place, retimed_pieces}
-use Rattle.vcd_amend.specs.RetimedLaws.{tick_after_item, last_change, LastChangesStand, IsNoEvent, pieces_after}
+use Rattle.vcd_amend.specs.RetimedLaws.{tick_after_item, pieces_after}
+use Rattle.vcd_amend.specs.inside.LastChange.{last_change}
 use Rattle.vcd_amend.specs.RetimedLaws.{CanBeRetimed}
-use Rattle.vcd_amend.proofs.amended.OneCode.{itself, differ}
 use Rattle.vcd_text.proofs.read_back.Decimals.{number_of-decimal}
 use Rattle.vcd_amend.proofs.retimed.Ticks.{rises, same_test, items_of, IsTickAfter, small, stamp_ticks, placed}
 use Rattle.vcd_amend.proofs.retimed.Kinds.{IsChange, IsStill, kind_of, is_stamp, is_change, is_still, change_of_key}
@@ -408,16 +407,6 @@ module _ (is_kept : List ℕ → Bool) (key : ChangeKey) where
             s p.item) held n b theirs ps allows.1 kept lasting) still
       ]
 
--- a code has a variable that is no event, so its changes last
-any_lasts : (s : ParseState) (code : List ℕ) → Any (IsNoEvent code) s.declared → lasts s code ≡ true
-any_lasts s code (k, d, within, at_it, is) = list_any-from_Any (λ d. bytes_eq code d.code && not (bytes_eq d.kind (codes
-    "event"))) s.declared (k, d, within, at_it, both)
-  where
-    both : (bytes_eq code d.code && not (bytes_eq d.kind (codes "event"))) ≡ true
-    both =
-        let same : bytes_eq code d.code ≡ true = ap (bytes_eq code) is.0 ∙ itself code in
-        rw (same, differ d.kind (codes "event") is.1) refl
-
 pub lasting_change_stands : (is_cut_out : ℕ → Bool) (old_tick : ℕ → ℕ) (limit : ℕ) (file : List ℕ) (pieces : List Piece)
     (tail : List ℕ) (key : ChangeKey) (t : ℕ) → CanBeRetimed is_cut_out old_tick limit file pieces tail
     → lasts (state_of_pieces limit pieces) (code_of_key key) ≡ true
@@ -432,7 +421,3 @@ lasting_change_stands is_cut_out old_tick limit file pieces tail key t can lasti
       all = All-nil IsHeld;
       last = counted_none is_kept key (nat_le 0 t) None;
     })
-
-pub last_changes_stand : LastChangesStand
-last_changes_stand is_cut_out old_tick limit file pieces tail key t can any = lasting_change_stands is_cut_out old_tick
-    limit file pieces tail key t can (any_lasts (state_of_pieces limit pieces) (code_of_key key) any)

@@ -24,7 +24,8 @@ use Rattle.vcd_text.proofs.shared.ItemsInTurn.{value_with}
 use Rattle.vcd_text.specs.Meaning.{declared_signal, changes_of_code, meaning}
 use Rattle.vcd_amend.specs.Retimed.{ChangeKey, digits_key, text_key, change_key, code_of_key}
 use Rattle.vcd_amend.specs.Retimed.{has_kept_variable, new_tick, retimed_signal, retimed_contents}
-use Rattle.vcd_amend.specs.RetimedLaws.{last_change, CanBeRetimed, pieces_after}
+use Rattle.vcd_amend.specs.RetimedLaws.{CanBeRetimed, pieces_after}
+use Rattle.vcd_amend.specs.inside.LastChange.{last_change}
 use Rattle.vcd_amend.specs.Amendment.{first_with_code}
 use Rattle.vcd_amend.proofs.amended.OneCode.{same_bytes, bytes_turned}
 use Rattle.vcd_amend.proofs.retimed.Kinds.{same_form, count_together, kind_of, is_stamp, is_change, is_still}

@@ -18,13 +18,14 @@ use Rattle.vcd_amend.specs.Retimed.{new_tick, AreOldTicks, ChangeKey, change_key
 use Rattle.vcd_amend.specs.Retimed.{held_with, is_past, released_pieces, retimed_stamp, pieces_in_place}
 use Rattle.vcd_copy.specs.Pieces.{stamp_line}
 use Rattle.vcd_amend.specs.Retimed.{retimed_pieces, has_kept_variable}
-use Rattle.vcd_amend.specs.RetimedLaws.{changes_at_ticks, last_ones, lasts_with, ChangesStandInOrder}
+use Rattle.vcd_amend.specs.RetimedLaws.{changes_at_ticks, last_ones, lasts_with}
 use Rattle.vcd_text.proofs.read_back.Decimals.{number_of-decimal}
-use Rattle.vcd_amend.proofs.retimed.Ticks.{rises, rises_past, items_of, IsTickAfter, small, stamp_ticks, placed}
+use Rattle.vcd_amend.proofs.retimed.Ticks.{rises, rises_past, old_of_new, items_of, IsTickAfter, small}
+use Rattle.vcd_amend.proofs.retimed.Ticks.{stamp_ticks, placed}
 use Rattle.vcd_amend.proofs.retimed.Kinds.{IsChange, IsStill, kind_of, is_stamp, is_change, is_still, code_together}
 use Rattle.vcd_amend.proofs.retimed.Kinds.{declared_stays, kept_same, retimed_still, retimed_change, retimed_by_stamp}
 use Rattle.vcd_amend.proofs.retimed.LastChanges.{IsHeld, held_change}
-use Rattle.vcd_amend.proofs.retimed.Stamps.{same_when_left, not_when_cut}
+use Rattle.vcd_amend.proofs.retimed.Ticks.{same_when_left, not_when_cut}
 use Rattle.vcd_amend.proofs.retimed.ChangesAtTicks.{without, held_last, stands_last, AreApart, all_last, still_apart}
 use Rattle.vcd_amend.proofs.retimed.ChangesAtTicks.{with_it_apart, at_still, at_change, at_stamp, changes_written}
 use Rattle.vcd_amend.proofs.retimed.ChangesAtTicks.{none_from}
@@ -480,19 +481,24 @@ module _ (is_cut_out : ℕ → Bool) (old_tick : ℕ → ℕ) (old : AreOldTicks
         same w) still
   ]
 
-pub changes_stand_in_order : ChangesStandInOrder
+pub changes_stand_in_order : (is_cut_out : ℕ → Bool) (old_tick : ℕ → ℕ) (limit : ℕ) (pieces : List Piece)
+    → AreOldTicks is_cut_out old_tick → AllowsAll (initial_state limit) (items_of pieces) → (t : ℕ)
+    → is_cut_out t ≡ false
+    → changes_at_ticks (λ u. u == new_tick is_cut_out t) 0 (retimed_pieces is_cut_out (initial_state limit) [] pieces)
+    ≡ changes_at_ticks (λ u. u == t) 0 pieces ++ last_ones (has_kept_variable (state_of_pieces limit pieces))
+    (filter (λ p. lasts_with (state_of_pieces limit pieces) (change_key p.item)) (changes_at_ticks (λ u. is_cut_out u
+    && (new_tick is_cut_out u == new_tick is_cut_out t)) 0 pieces)) (changes_at_ticks (λ u. u == t) 0 pieces)
 unfolding new_tick
-changes_stand_in_order is_cut_out old_tick limit file pieces tail t here cut can is_here is_cut =
-    goes is_cut_out old_tick can.ticks t (state_of_pieces limit pieces) (initial_state limit) [] 0 pieces can.allowed
-    refl
+changes_stand_in_order is_cut_out old_tick limit pieces old allows u left =
+    let s : ParseState = state_of_pieces limit pieces in
+    let t : ℕ = new_tick is_cut_out u in
+    let cut : List Piece = changes_at_ticks (λ u. is_cut_out u && (new_tick is_cut_out u == t)) 0 pieces in
+    goes is_cut_out old_tick old t s (initial_state limit) [] 0 pieces allows refl
     (record {
       is = record { upto = omega arith; here = λ _. refl; most = omega arith };
       all = All-nil IsHeld;
-      last = All-nil (λ p. lasts_with (state_of_pieces limit pieces) (change_key p.item) ≡ true);
+      last = All-nil (λ p. lasts_with s (change_key p.item) ≡ true);
       apart = tt;
-    }) ∙ ap (λ (l : List Piece). both is_cut_out old_tick can.ticks t (state_of_pieces limit pieces) l (changes_at_ticks
-    (λ u.
-    u
-    == old_tick t) 0 pieces) (changes_at_ticks (λ u. is_cut_out u && (new_tick is_cut_out u == t)) 0 pieces)) (none_mine
-    is_cut_out old_tick can.ticks t (state_of_pieces limit pieces) 0) ∙ (λ i. both is_cut_out old_tick can.ticks t
-    (state_of_pieces limit pieces) [] (sym is_here i) (sym is_cut i))
+    }) ∙ ap (λ (l : List Piece). both is_cut_out old_tick old t s l (changes_at_ticks (λ u. u == old_tick t) 0 pieces)
+    cut) (none_mine is_cut_out old_tick old t s 0) ∙ ap (λ (o : ℕ). both is_cut_out old_tick old t s []
+    (changes_at_ticks (λ u. u == o) 0 pieces) cut) (old_of_new is_cut_out old_tick old u left)

@@ -25,9 +25,9 @@ use Rattle.vcd_amend.specs.Retimed.{is_past, has_kept_variable, released_pieces,
 use Rattle.vcd_copy.specs.Pieces.{stamp_line}
 use Rattle.vcd_amend.specs.Retimed.{pieces_in_place, retimed_pieces}
 use Rattle.vcd_amend.specs.RetimedLaws.{CanBeRetimed, MeansRetimed, pieces_after, RetimedFileMeansRetimedCapture}
-use Rattle.vcd_amend.specs.RetimedLaws.{bytes_of, RetimedTextMeansRetimedCapture, is_neither, OtherPiecesStand}
+use Rattle.vcd_amend.specs.RetimedLaws.{bytes_of, RetimedTextMeansRetimedCapture, is_neither}
 use Rattle.vcd_amend.proofs.amended.Spelled.{unbroken_has_no_space}
-use Rattle.vcd_amend.proofs.amended.WholeText.{HasSpace, SpellsItem, HasSomeSpace, items_of}
+use Rattle.vcd_amend.proofs.amended.OtherWords.{HasSpace, SpellsItem, HasSomeSpace, items_of}
 use Rattle.vcd_amend.proofs.retimed.Ticks.{is_earlier, stamp_ticks}
 use Rattle.vcd_amend.proofs.retimed.Kinds.{kind_of, is_stamp, is_change, is_still, retimed_still, retimed_change}
 use Rattle.vcd_amend.proofs.retimed.Kinds.{retimed_by_stamp, change_of_key}
@@ -308,6 +308,6 @@ module _ (is_cut_out : ℕ → Bool) where
       one_none true neither = refl
       one_none false neither = rw neither refl
 
-pub other_pieces_stand : OtherPiecesStand
-other_pieces_stand is_cut_out old_tick limit file pieces tail can =
-    stand is_cut_out (initial_state limit) [] pieces (All-nil IsHeld)
+pub other_pieces_stand : (is_cut_out : ℕ → Bool) (limit : ℕ) (pieces : List Piece)
+    → others (pieces_after is_cut_out limit pieces) ≡ others pieces
+other_pieces_stand is_cut_out limit pieces = stand is_cut_out (initial_state limit) [] pieces (All-nil IsHeld)

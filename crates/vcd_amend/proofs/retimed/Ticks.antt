@@ -1,7 +1,8 @@
 -- The new ticks of ticks that are left, the old ones of new ticks, and the stamps of a retimed file.
 use Rattle.std.proofs.Common.{◌≡◌, ℕ, zero, suc, ◌+◌, ◌-◌, ◌<◌, ◌≤◌, ◌∙◌, Bool, true, false, nat_lt, nat_le, refl, ap}
 use Rattle.std.proofs.Common.{sym, arith, if◌then◌else◌, inl, inr, ◌==◌, ◌^◌, map, decimal, IsTrue, List, ◌∷◌, ◌++◌}
-use Rattle.std.proofs.lemmas.Bool.{cases_Bool, cases_lt, le-leb, lt-leb, and_parts, false≢true, leb-true, eqb-true}
+use Rattle.std.proofs.lemmas.Bool.{cases_Bool, cases_lt, le-leb, lt-leb, and_parts, false≢true, leb-true}
+use Rattle.std.proofs.lemmas.Bool.{eqb-true, eq-eqb}
 use Rattle.std.proofs.lemmas.Bool.Decides.{nat_tests}
 use Rattle.vcd_core.specs.Decimal.{number_of, is_number}
 use Rattle.vcd_core.specs.declared.capture.TheConstants.{END_LIMIT}
@@ -95,6 +96,27 @@ module _ (is_cut_out : ℕ → Bool) (old_tick : ℕ → ℕ) (old : AreOldTicks
 
   pub old_rises : (t end : ℕ) → t ≤ end → old_tick t ≤ old_tick end
   old_rises t end order = before_old (old_tick t) end (omega (arith, old.same t))
+
+  -- a tick that is left has the new tick if it is the old one of it
+  pub same_when_left : (t u : ℕ) → is_cut_out u ≡ false → (new_tick is_cut_out u == t) ≡ (u == old_tick t)
+  same_when_left t u left = elim (cases_Bool (new_tick is_cut_out u == t)) [
+    | inl same ↦
+        let is : new_tick is_cut_out u ≡ t = eqb-true (new_tick is_cut_out u) t same in
+        let it : u ≡ old_tick t = sym (old_of_new u left) ∙ ap old_tick is in
+        same ∙ sym (eq-eqb u (old_tick t) it)
+    | inr other ↦ elim (cases_Bool (u == old_tick t)) [
+      | inl same ↦ absurd (false≢true (sym other ∙ eq-eqb (new_tick is_cut_out u) t (ap (new_tick is_cut_out) (eqb-true
+          u
+          (old_tick t) same) ∙ old.same t)))
+      | inr apart ↦ other ∙ sym apart
+    ]
+  ]
+
+  pub not_when_cut : (t u : ℕ) → is_cut_out u ≡ true → (u == old_tick t) ≡ false
+  not_when_cut t u cut = elim (cases_Bool (u == old_tick t)) [
+    | inl same ↦ absurd (false≢true (sym (ap is_cut_out (eqb-true u (old_tick t) same) ∙ old.left t) ∙ cut))
+    | inr apart ↦ apart
+  ]
 
 -- ---- cuts
 

@@ -15,7 +15,7 @@ use Rattle.vcd_amend.specs.FreshCodes.{AreFresh}
 use Rattle.vcd_amend.specs.GivenCodes.{NewWave, CodedWave, AreSignalsOf, is_unchanged, new_wave_of, held_codes}
 use Rattle.vcd_amend.specs.GivenCodes.{waves_of_changed, free_code, coded_wave, coded_waves_from, next_fresh}
 use Rattle.vcd_amend.specs.GivenCodes.{also_taken, coded_signals}
-use Rattle.vcd_amend.specs.WhatStands.{change_may_go, any_with_code}
+use Rattle.vcd_amend.specs.WhatStands.{wave_differs, any_with_code}
 use Rattle.vcd_amend.proofs.amended.OneCode.{itself, same_bytes}
 use Rattle.vcd_amend.proofs.given_codes.CodedWaves.{free_is}
 use Rattle.vcd_amend.proofs.given_codes.Gives.{kept_to, later, declared_to}
@@ -121,7 +121,7 @@ wave_stands w t = same_letters (value_at w.width w.old t) (value_at w.width w.ne
 -- where they do not, a change of its own code may go
 abbrev pub GoesOwn : ParseState → List VariableDeclaration → List (Option SignalContents) → NewWave → Type 0
 GoesOwn s ds ns w = (code : List ℕ) → w.own ≡ Some code → (t : ℕ) → wave_stands w t ≡ false
-    → any_with_code (change_may_go s t) code ds ns ≡ true
+    → any_with_code (wave_differs s t) code ds ns ≡ true
 
 by_tests : (same new old : Bool) → (same && (new || not old)) ≡ false → (not same || (old && not new)) ≡ true
 by_tests false new old is = refl
@@ -147,8 +147,8 @@ module _ (s : ParseState) where
       here : GoesOwn s (d ∷ ds) (Some n ∷ ns) (new_wave_of s d n)
       here code own t is =
           let same : d.code ≡ code = same_Some d.code code own in
-          let may : change_may_go s t d (Some n) ≡ true = by_tests _ _ _ is in
-          let it : (bytes_eq code d.code && change_may_go s t d (Some n)) ≡ true = rw (ap (bytes_eq code) same
+          let may : wave_differs s t d (Some n) ≡ true = by_tests _ _ _ is in
+          let it : (bytes_eq code d.code && wave_differs s t d (Some n)) ≡ true = rw (ap (bytes_eq code) same
           ∙ itself code) may in
           or_left _ _ it
 
@@ -158,7 +158,7 @@ module _ (s : ParseState) where
       (ns : List (Option SignalContents)) where
     abbrev pub GoesCode : AmendedCode → Type 0
     GoesCode c = is_some (first_with_code c.code s.declared) ≡ true → (t : ℕ) → changes_stand c t ≡ false
-        → any_with_code (change_may_go s t) c.code ds ns ≡ true
+        → any_with_code (wave_differs s t) c.code ds ns ≡ true
 
     pub one_goes : (g : CodedWave) → IsGiven fresh g → GoesOwn s ds ns g.wave → GoesCode g.coded
     one_goes g (inl (own, width, old, new)) goes known t falls = goes g.coded.code own t (sym
@@ -221,7 +221,7 @@ module _ (s : ParseState) where
           | inr differs ↦ past _ _ (again ns are (rw differs at held))
         ]
 
-    -- if a code of the file is not left, and is the own one of no changed variable, a variable of it is left out
+    -- if a code is not left, and is the own one of no changed variable, nothing is left of its variables
     abbrev pub IsNotOwn : NewWave → Type 0
     IsNotOwn w = w.own ≡ Some code → ⊥
 
@@ -232,30 +232,34 @@ module _ (s : ParseState) where
       | inr beside ↦ rw beside at gone
     ]
 
-    pub gone_goes : (t : ℕ) (ds : List VariableDeclaration) (ns : List (Option SignalContents))
-        → AreSignalsOf s (kept_variables ds) ns → All IsNotOwn (waves_of_changed s (kept_variables ds) ns)
-        → IsLeft ds ≡ true → IsLeft (declared_to ds (coded_signals s gs (kept_variables ds) ns)) ≡ false
-        → any_with_code (change_may_go s t) code (kept_variables ds) ns ≡ true
-    gone_goes t [] ns are unowned known gone = absurd (false≢true known)
-    gone_goes t (d ∷ ds) ns are unowned known gone =
-        by_kind (is_skipped d) refl (λ ns are unowned known gone. gone_goes t ds ns are unowned known gone)
-      where
-        Goes : List VariableDeclaration → List (Option SignalContents) → Type 0
-        Goes ks ns = any_with_code (change_may_go s t) code ks ns ≡ true
+    abbrev NothingLeft : (known : Type 0) → List VariableDeclaration → List (Option SignalContents) → Type 0
+    NothingLeft known ks ns = (known → any_with_code (λ d o. not (is_some o)) code ks ns ≡ true)
+        × (any_with_code (λ d o. is_some o) code ks ns ≡ false)
 
+    pub nothing_left : (ds : List VariableDeclaration) (ns : List (Option SignalContents))
+        → AreSignalsOf s (kept_variables ds) ns → All IsNotOwn (waves_of_changed s (kept_variables ds) ns)
+        → IsLeft (declared_to ds (coded_signals s gs (kept_variables ds) ns)) ≡ false
+        → NothingLeft (IsLeft ds ≡ true) (kept_variables ds) ns
+    nothing_left [] ns are unowned gone = ((λ known. absurd (false≢true known)), refl)
+    nothing_left (d ∷ ds) ns are unowned gone =
+        by_kind (is_skipped d) refl (λ ns are unowned gone. nothing_left ds ns are unowned gone)
+      where
         by_left : (ns : List (Option SignalContents)) → AreSignalsOf s (d ∷ kept_variables ds) ns
             → All IsNotOwn (waves_of_changed s (d ∷ kept_variables ds) ns)
             → IsLeft (kept_to false d (coded_signals s gs (d ∷ kept_variables ds) ns)
             ++ declared_to ds (later false (coded_signals s gs (d ∷ kept_variables ds) ns))) ≡ false
             → ((ns : List (Option SignalContents)) → AreSignalsOf s (kept_variables ds) ns
-            → All IsNotOwn (waves_of_changed s (kept_variables ds) ns) → IsLeft ds ≡ true
+            → All IsNotOwn (waves_of_changed s (kept_variables ds) ns)
             → IsLeft (declared_to ds (coded_signals s gs (kept_variables ds) ns)) ≡ false
-            → Goes (kept_variables ds) ns) → Goes (d ∷ kept_variables ds) ns
+            → NothingLeft (IsLeft ds ≡ true) (kept_variables ds) ns)
+            → NothingLeft (IsLeft (d ∷ ds) ≡ true) (d ∷ kept_variables ds) ns
         by_left [] are unowned gone again = absurd are
-        by_left (None ∷ ns) are unowned gone again = elim (cases_Bool (bytes_eq code d.code)) [
-          | inl own ↦ let it : (bytes_eq code d.code && true) ≡ true = rw own refl in or_left _ _ it
-          | inr beside ↦ or_right _ _ (again ns are unowned (rw beside at known) gone)
-        ]
+        by_left (None ∷ ns) are unowned gone again =
+            let rest = again ns are unowned gone in
+            elim (cases_Bool (bytes_eq code d.code)) [
+              | inl own ↦ rw own ((λ known. refl), rest.1)
+              | inr beside ↦ rw beside (rest.0, rest.1)
+            ]
         by_left (Some n ∷ ns) (here, are) unowned gone again = elim (cases_Bool (bytes_eq code d.code)) [
           | inl own ↦ elim (cases_Bool (is_unchanged s d n)) [
             | inl same ↦ let never : true ≡ false = rw own at (rw same at gone) in absurd (cc)
@@ -264,8 +268,9 @@ module _ (s : ParseState) where
                 rw differs at unowned in
                 absurd (All-head IsNotOwn _ _ some (ap Some (sym (same_bytes code d.code own))))
           ]
-          | inr beside ↦ or_right _ _ (again ns are (fewer (is_unchanged s d n) refl) (rw beside at known)
-              (not_later _ _ gone))
+          | inr beside ↦
+              let rest = again ns are (fewer (is_unchanged s d n) refl) (not_later _ _ gone) in
+              rw beside (rest.0, rest.1)
         ]
           where
             fewer : (b : Bool) → is_unchanged s d n ≡ b → All IsNotOwn (waves_of_changed s (kept_variables ds) ns)
@@ -274,15 +279,18 @@ module _ (s : ParseState) where
 
         by_kind : (skipped : Bool) → is_skipped d ≡ skipped → ((ns : List (Option SignalContents))
             → AreSignalsOf s (kept_variables ds) ns → All IsNotOwn (waves_of_changed s (kept_variables ds) ns)
-            → IsLeft ds ≡ true → IsLeft (declared_to ds (coded_signals s gs (kept_variables ds) ns)) ≡ false
-            → Goes (kept_variables ds) ns) → Goes (kept_variables (d ∷ ds)) ns
+            → IsLeft (declared_to ds (coded_signals s gs (kept_variables ds) ns)) ≡ false
+            → NothingLeft (IsLeft ds ≡ true) (kept_variables ds) ns)
+            → NothingLeft (IsLeft (d ∷ ds) ≡ true) (kept_variables (d ∷ ds)) ns
         by_kind true skipped again =
             let none : kept_variables (d ∷ ds) ≡ kept_variables ds = rw skipped refl in
             let gone_here : IsLeft (d ∷ declared_to ds (coded_signals s gs (kept_variables ds) ns)) ≡ false =
             rw skipped at gone in
             let beside : bytes_eq code d.code ≡ false = by_code (bytes_eq code d.code) refl gone_here in
-            subst (λ l. Goes l ns) (sym none) (again ns (subst (λ l. AreSignalsOf s l ns) none are) (subst (λ l.
-            All IsNotOwn (waves_of_changed s l ns)) none unowned) (rw beside at known) (not_later d _ gone_here))
+            let rest = again ns (subst (λ l. AreSignalsOf s l ns) none are) (subst (λ l. All IsNotOwn (waves_of_changed
+            s l ns)) none unowned) (not_later d _ gone_here) in
+            subst (λ l. NothingLeft (IsLeft (d ∷ ds) ≡ true) l ns) (sym none)
+            ((λ known. rest.0 (rw beside at known)), rest.1)
           where
             by_code : (b : Bool) → bytes_eq code d.code ≡ b
                 → IsLeft (d ∷ declared_to ds (coded_signals s gs (kept_variables ds) ns)) ≡ false
@@ -291,5 +299,8 @@ module _ (s : ParseState) where
             by_code false beside gone_here = beside
         by_kind false kept again =
             let one : kept_variables (d ∷ ds) ≡ d ∷ kept_variables ds = rw kept refl in
-            subst (λ l. Goes l ns) (sym one) (by_left ns (subst (λ l. AreSignalsOf s l ns) one are) (subst (λ l. All
-            IsNotOwn (waves_of_changed s l ns)) one unowned) (rw kept at gone) again)
+            let gone_here = rw kept at gone in
+            subst (λ l. NothingLeft (IsLeft (d ∷ ds) ≡ true) l ns) (sym one) (by_left ns
+            (subst (λ l. AreSignalsOf s l ns) one
+            are)
+            (subst (λ l. All IsNotOwn (waves_of_changed s l ns)) one unowned) gone_here again)

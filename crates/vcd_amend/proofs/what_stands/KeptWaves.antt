@@ -1,23 +1,21 @@
 -- An amendment names no code that keeps its wave, so no change of such a code is put in.
-use Rattle.std.proofs.Common.{◌≡◌, ℕ, ◌+◌, ◌≤◌, Bool, true, false, not, ◌∙◌, All, ◌&&◌, ◌||◌, List}
+use Rattle.std.proofs.Common.{◌≡◌, ℕ, ◌+◌, ◌≤◌, Bool, true, false, ◌∙◌, All, ◌&&◌, ◌||◌, List}
 use Rattle.std.proofs.Common.{[], ◌∷◌, length, Option, Some, None, refl, sym, ap, inl, inr}
 use Rattle.std.specs.Prelude.{bytes_eq, find, is_some}
 use Rattle.std.specs.List.{list_all, list_any}
-use Rattle.std.proofs.lemmas.Bool.{cases_Bool, false≢true, and_parts, and_from}
+use Rattle.std.proofs.lemmas.Bool.{cases_Bool, false≢true, and_parts}
 use Rattle.std.proofs.lemmas.List.Elements.{All-nil, All-cons, All-head, All-tail, All-weaker}
 use Rattle.vcd_core.specs.Contents.{SignalContents}
 use Rattle.vcd_core.specs.Sound.{IsSoundSignal}
 use Rattle.vcd_core.specs.Word.{is_one_of}
-use Rattle.vcd_text.specs.Items.{Item, entry, timescale, scope, upscope, variable, end_definitions, stamp, scalar}
-use Rattle.vcd_text.specs.Items.{vector, real_or_string, dump_word, other}
-use Rattle.vcd_text.specs.Grammar.{ParseState, VariableDeclaration, kept_variables, is_skipped, state_after_item}
-use Rattle.vcd_copy.specs.Pieces.{Piece}
+use Rattle.vcd_text.specs.Grammar.{ParseState, VariableDeclaration, kept_variables, is_skipped}
+use Rattle.vcd_text.specs.Text.{value_item}
+use Rattle.vcd_core.specs.declared.bit.Bit.{Bit}
 use Rattle.vcd_amend.specs.Amendment.{AmendedCode, Amendment, first_with_code, amended_code}
 use Rattle.vcd_amend.specs.AmendedMeaning.{class_of, FitsFile, FitsAmendedCode}
 use Rattle.vcd_amend.specs.FreshCodes.{fresh_code}
 use Rattle.vcd_amend.specs.GivenCodes.{AreSignalsOf, IsFileState, amendment_for, held_codes, is_unchanged, new_waves}
 use Rattle.vcd_amend.specs.GivenCodes.{signals_left}
-use Rattle.vcd_amend.specs.WhatStands.{may_come, BecomesText, at_end, standing, going, exchanged}
 use Rattle.vcd_amend.specs.WhatStands.{keeps_wave, may_be_put_in}
 use Rattle.vcd_amend.proofs.amended.OneCode.{itself, same_bytes}
 use Rattle.vcd_amend.proofs.shared.Lists.{found_has, found_is}
@@ -141,44 +139,10 @@ module _ (s : ParseState) (file : IsFileState s) (remaining : List (Option Signa
           rw (none_is_skipped code c.width s.declared (of_width (first_with_code code s.declared) refl))
           (not_held (is_one_of held code) refl)
 
-    code_may : (code : List ℕ) (o : Option AmendedCode) → amended_code code a.codes ≡ o → is_some o ≡ true
-        → not (keeps_wave s remaining code) ≡ true
-    code_may code None is some = absurd (false≢true some)
-    code_may code (Some c) is some = rw (keeps_none code c is) refl
-
-    module _ (signals : List SignalContents) where
-      pub may_be : (i : Item) → may_come a signals i ≡ true → may_be_put_in s remaining signals i ≡ true
-      may_be (stamp digits) may = refl
-      may_be (scope kind words) may = refl
-      may_be upscope may = refl
-      may_be (variable words) may = may
-      may_be (scalar digit code) may = code_may code (amended_code code a.codes) refl may
-      may_be (vector first digits code) may = code_may code (amended_code code a.codes) refl may
-      may_be (real_or_string first text code) may = absurd (false≢true may)
-      may_be (entry keyword words) may = absurd (false≢true may)
-      may_be (timescale words) may = absurd (false≢true may)
-      may_be end_definitions may = absurd (false≢true may)
-      may_be (dump_word word) may = absurd (false≢true may)
-      may_be (other word words) may = absurd (false≢true may)
-
--- ---- texts
-
-module _ (go : ParseState → Item → Bool) (come also : Item → Bool) (tail : List ℕ)
-    (more : (i : Item) → come i ≡ true → also i ≡ true) where
-  all_also : (is : List Item) → list_all come is ≡ true → list_all also is ≡ true
-  all_also [] all = refl
-  all_also (i ∷ is) all =
-      let parts = and_parts (come i) (list_all come is) all in
-      and_from _ _ (more i parts.0) (all_also is parts.1)
-
-  -- where more may come, a text that the pieces become stays one
-  pub becomes_also : (s : ParseState) (ps : List Piece) (text : List ℕ) → BecomesText go come tail s ps text
-      → BecomesText go also tail s ps text
-  becomes_also _ _ _ (at_end s is all) = at_end s is (all_also is all)
-  becomes_also _ _ _ (standing s p ps text is all rest) =
-      standing s p ps text is (all_also is all) (becomes_also (state_after_item s p.item) ps text rest)
-  becomes_also _ _ _ (going s p ps text goes rest) =
-      going s p ps text goes (becomes_also (state_after_item s p.item) ps text rest)
-  becomes_also _ _ _ (exchanged s p ps text goes i comes body spelled rest) =
-      exchanged s p ps text goes i (more i comes) body spelled
-      (becomes_also (state_after_item s p.item) ps text rest)
+    -- a change of an amended code may be put in
+    pub value_comes : (signals : List SignalContents) (c : AmendedCode) (v : List Bit)
+        → amended_code c.code a.codes ≡ Some c
+        → list_all (may_be_put_in s remaining signals) (value_item c.code v ∷ []) ≡ true
+    value_comes signals c [] is = rw (keeps_none c.code c is) refl
+    value_comes signals c (b ∷ []) is = rw (keeps_none c.code c is) refl
+    value_comes signals c (b ∷ e ∷ v) is = rw (keeps_none c.code c is) refl

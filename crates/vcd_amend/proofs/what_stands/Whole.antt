@@ -1,9 +1,10 @@
 -- What is untouched stands, and the rest may come.
-use Rattle.std.proofs.Common.{◌≡◌, ℕ, ◌+◌, ◌<◌, ◌≤◌, ◌^◌, Bool, true, false, ◌∙◌, if◌then◌else◌, All, List, [], ◌∷◌}
+use Rattle.std.proofs.Common.{◌≡◌, ℕ, ◌+◌, ◌<◌, ◌≤◌, ◌^◌, Bool, true, false, not, ◌&&◌, ◌∙◌, if◌then◌else◌, All, List}
+use Rattle.std.proofs.Common.{[], ◌∷◌}
 use Rattle.std.proofs.Common.{◌++◌, map, length, drop, Option, Some, None, refl, sym, ap, arith, inl, inr, subst}
 use Rattle.std.proofs.Common.{append_assoc, decimal}
 use Rattle.std.specs.Prelude.{bytes_eq, is_some, find, count_by}
-use Rattle.std.specs.List.{list_all}
+use Rattle.std.specs.List.{list_any}
 use Rattle.std.specs.Cmp.Lexicographic.{pointwise_decides}
 use Rattle.std.proofs.lemmas.Bool.{cases_Bool, false≢true, and_parts, and_from, or_left, or_right, eq-eqb}
 use Rattle.std.proofs.lemmas.List.Elements.{All-nil, All-cons, All-head, All-tail, All-weaker, All-append, All-map}
@@ -19,37 +20,49 @@ use Rattle.vcd_text.specs.Items.{vector, real_or_string, dump_word, other}
 use Rattle.vcd_text.specs.Grammar.{ParseState, VariableDeclaration, kept_variables, is_skipped, AllowsAll, Allows}
 use Rattle.vcd_text.specs.Grammar.{initial_state, state_after, state_after_item, variable_of}
 use Rattle.vcd_text.specs.Meaning.{FileMeans, meaning}
+use Rattle.vcd_text.specs.Text.{value_item}
+use Rattle.vcd_copy.specs.Pieces.{Piece, IsCut, state_of_pieces}
+use Rattle.vcd_core.specs.declared.bit.Bit.{Bit}
 use Rattle.vcd_text.proofs.shared.ItemTests.{passed}
 use Rattle.vcd_text.proofs.part.FewSignals.{same_limit}
 use Rattle.vcd_text.proofs.read_back.Decimals.{number_of-decimal}
 use Rattle.vcd_amend.specs.Amendment.{AmendedCode, Amendment, first_with_code, amended_code, is_used, changes_stand}
-use Rattle.vcd_amend.specs.Amendment.{amended_variables}
+use Rattle.vcd_amend.specs.Amendment.{amended_variables, needs_change, new_value}
 use Rattle.vcd_amend.specs.AmendedItems.{ItemFate, is_left_out, stands, value_fate, item_fate, exchange_for, due_items}
+use Rattle.vcd_amend.specs.AmendedItems.{file_has_change}
 use Rattle.vcd_amend.specs.AmendedMeaning.{FitsFile, FitsAmendedCode}
 use Rattle.vcd_amend.specs.CodedAmendment.{derived_variable}
 use Rattle.vcd_amend.specs.FreshCodes.{fresh_code}
 use Rattle.vcd_amend.specs.GivenCodes.{NewWave, CodedWave, AreSignalsOf, IsFileState, amendment_for, coded_waves}
 use Rattle.vcd_amend.specs.GivenCodes.{held_codes, new_waves, waves_of_changed, derived_new_wave, same_new_wave}
 use Rattle.vcd_amend.specs.GivenCodes.{coded_signals, coded_derived, signals_left, changed_waves}
-use Rattle.vcd_amend.specs.WhatStands.{may_go, may_come, any_with_code, change_may_go, declares, BecomesText}
-use Rattle.vcd_amend.specs.WhatStands.{UntouchedItemsStand}
+use Rattle.vcd_amend.specs.WhatStands.{may_go, any_with_code, wave_differs, is_gone, change_may_go, declares}
+use Rattle.vcd_amend.specs.WhatStands.{may_be_put_in, may_become, UntouchedItemsStand}
+use Rattle.vcd_amend.specs.RetimedLaws.{tick_after_item}
 use Rattle.vcd_amend.proofs.amended.OneCode.{itself, same_bytes}
 use Rattle.vcd_amend.proofs.shared.Lists.{found_has, found_is, is_there, each_of_both, some_first, all_of_map}
 use Rattle.vcd_amend.proofs.amended.Fitting.{found_apart}
 use Rattle.vcd_amend.proofs.amended.Whole.{declared_grows, body_items}
-use Rattle.vcd_amend.proofs.amended.WholeText.{items_of}
+use Rattle.vcd_amend.proofs.amended.OtherWords.{items_of}
 use Rattle.vcd_amend.proofs.given_codes.CodedWaves.{waves_are}
 use Rattle.vcd_amend.proofs.given_codes.File.{state_of_file, other_capture_of_pieces}
 use Rattle.vcd_amend.proofs.given_codes.Fits.{all_fit, met, variables_are}
 use Rattle.vcd_amend.proofs.given_codes.FreshCodes.{fresh_codes_are_fresh}
 use Rattle.vcd_amend.proofs.given_codes.Gives.{amendment_fits, declared_to}
 use Rattle.vcd_amend.proofs.given_codes.NewWaves.{firsts_have, new_wave_parts}
-use Rattle.vcd_amend.proofs.what_stands.ComingAndGoing.{DeclaresOne, due_comes, due_come, inserted_come, declared_may}
-use Rattle.vcd_amend.proofs.what_stands.ComingAndGoing.{MayHave, pieces_become}
+use Rattle.vcd_amend.proofs.what_stands.ComingAndGoing.{ValuesCome, DeclarationComes, due_come, inserted_come}
+use Rattle.vcd_amend.proofs.what_stands.ComingAndGoing.{declared_may, MayHave, pieces_become}
+use Rattle.vcd_amend.proofs.amended.WholeText.{made, made_is_cut}
+use Rattle.vcd_amend.proofs.what_stands.KeptWaves.{value_comes}
 use Rattle.vcd_amend.proofs.what_stands.GoingChanges.{IsGiven, all_given, OwnInUse, IsInUse, all_in_use, GoesOwn}
-use Rattle.vcd_amend.proofs.what_stands.GoingChanges.{changed_go, GoesCode, one_goes, held_is_left, gone_goes, IsNotOwn}
+use Rattle.vcd_amend.proofs.what_stands.GoingChanges.{changed_go, GoesCode, one_goes, held_is_left, nothing_left}
+use Rattle.vcd_amend.proofs.what_stands.GoingChanges.{IsNotOwn}
 
 -- ---- derived signals
+
+-- a variable that declares one of these signals
+abbrev DeclaresOne : List SignalContents → VariableDeclaration → Type 0
+DeclaresOne signals d = list_any (declares (d.kind ∷ decimal d.size ∷ d.code ∷ d.words)) signals ≡ true
 
 -- the declaration of a derived signal declares it
 module _ (tick : ℕ) where
@@ -97,7 +110,7 @@ module _ (s : ParseState) (file : IsFileState s) (remaining : List (Option Signa
     go = may_go s remaining
 
     abbrev come : Item → Bool
-    come = may_come a signals
+    come = may_be_put_in s remaining signals
 
     fit : FitsFile a s
     fit = amendment_fits s _ _ _ (all_fit (fresh_code s) s (fresh_codes_are_fresh s) file remaining derived are sound
@@ -106,10 +119,12 @@ module _ (s : ParseState) (file : IsFileState s) (remaining : List (Option Signa
     abbrev Found : AmendedCode → Type 0
     Found c = amended_code c.code cs ≡ Some c
 
-    found : All Found cs
-    found = found_apart cs fit.apart
+    values : All (ValuesCome come) cs
+    values = All-weaker Found (ValuesCome come) (λ c is v. value_comes s file remaining derived are sound few signals c
+        v
+        is) cs (found_apart cs fit.apart)
 
-    added : All (DeclaresOne signals) a.added
+    added : All (DeclarationComes come) a.added
     added = derived_declare s.tick _ (signals_left remaining) derived sound
 
     -- ---- changes
@@ -137,17 +152,15 @@ module _ (s : ParseState) (file : IsFileState s) (remaining : List (Option Signa
         (fresh_codes_are_fresh s) held 0 (new_waves s remaining derived))) waves_go)))
 
     module _ (code : List ℕ) (known : is_some (first_with_code code s.declared) ≡ true) (t : ℕ) where
-      abbrev Goes : Type 0
-      Goes = any_with_code (change_may_go s t) code ks remaining ≡ true
-
-      differing_goes : (c : AmendedCode) → amended_code code cs ≡ Some c → changes_stand c t ≡ false → Goes
+      differing_goes : (c : AmendedCode) → amended_code code cs ≡ Some c → changes_stand c t ≡ false
+          → any_with_code (wave_differs s t) code ks remaining ≡ true
       differing_goes c is falls =
           let same : code ≡ c.code = same_bytes code c.code (found_is (λ (c : AmendedCode). bytes_eq code c.code) cs c
           is)
           in
           let goes = found_has (GoesCode s (fresh_code s) (fresh_codes_are_fresh s) ks remaining) (λ (c : AmendedCode).
           bytes_eq code c.code) cs c codes_go is in
-          subst (λ k. any_with_code (change_may_go s t) k ks remaining ≡ true) (sym same) (goes (ap (λ k. is_some
+          subst (λ k. any_with_code (wave_differs s t) k ks remaining ≡ true) (sym same) (goes (ap (λ k. is_some
           (first_with_code k s.declared)) (sym same) ∙ known) t falls)
 
       module _ (gone : is_used a s code ≡ false) where
@@ -189,36 +202,46 @@ module _ (s : ParseState) (file : IsFileState s) (remaining : List (Option Signa
             not_in_use (in_use code (sym parts.0 ∙ own))) (waves_of_changed s ks remaining) (met (fresh_code s) s
             (fresh_codes_are_fresh s) file remaining derived are sound)
 
-        unused_goes : Goes
-        unused_goes = gone_goes s gs code t s.declared remaining are unowned known no_variable
+        unused_goes : is_gone s remaining code ≡ true
+        unused_goes =
+            let nothing = nothing_left s gs code s.declared remaining are unowned no_variable in
+            and_from _ _ (nothing.0 known) (ap not nothing.1)
 
     -- ---- what becomes of a change
 
     abbrev May : ParseState → Item → ItemFate → Type 0
     May = MayHave go come
 
-    exchange_may : (now : ParseState) (i : Item) (items : List Item) → list_all come items ≡ true → go now i ≡ true
-        → May now i (exchange_for items)
-    exchange_may now i [] all goes = goes
-    exchange_may now i (j ∷ items) all goes = (goes, (and_parts (come j) (list_all come items) all).0)
+    value_keeps_tick : (code : List ℕ) (v : List Bit) (t : ℕ) → tick_after_item t (value_item code v) ≡ t
+    value_keeps_tick code [] t = refl
+    value_keeps_tick code (b ∷ []) t = refl
+    value_keeps_tick code (b ∷ e ∷ v) t = refl
 
     value_may : (now : ParseState) (i : Item) (code : List ℕ) → is_some (first_with_code code s.declared) ≡ true
-        → (any_with_code (change_may_go s now.tick) code ks remaining ≡ true → go now i ≡ true)
+        → (change_may_go s remaining now.tick code ≡ true → go now i ≡ true)
         → (o : Option AmendedCode) → amended_code code cs ≡ o → May now i (value_fate now o)
     value_may now i code known goes None is = tt
     value_may now i code known goes (Some c) is = by_test (changes_stand c now.tick) refl
       where
+        by_due : (b : Bool) → go now i ≡ true
+            → May now i (exchange_for (if b then value_item c.code (new_value c now.tick) ∷ [] else []))
+        by_due true may = (
+          may,
+          (and_parts (come (value_item c.code (new_value c now.tick))) true (found_has (ValuesCome come)
+              (λ (c : AmendedCode). bytes_eq code c.code) cs c values is (new_value c now.tick))).0,
+          value_keeps_tick c.code (new_value c now.tick),
+        )
+        by_due false may = may
+
         by_test : (b : Bool) → changes_stand c now.tick ≡ b
             → May now i (if b then stands else exchange_for (due_items now now.tick c))
         by_test true agrees = tt
-        by_test false falls = exchange_may now i (due_items now now.tick c) (due_comes a signals found added now
-            now.tick
-            c (found_has Found (λ (c : AmendedCode). bytes_eq code c.code) cs c found is)) (goes (differing_goes code
-            known now.tick c is falls))
+        by_test false falls = by_due (needs_change c now.tick && not (file_has_change now c.code now.tick))
+            (goes (or_left _ _ (differing_goes code known now.tick c is falls)))
 
     used_or_gone : (now : ParseState) (i : Item) (code : List ℕ) (o : ItemFate)
         → is_some (first_with_code code s.declared) ≡ true
-        → (any_with_code (change_may_go s now.tick) code ks remaining ≡ true → go now i ≡ true) → May now i o
+        → (is_gone s remaining code ≡ true → go now i ≡ true) → May now i o
         → May now i (if is_used a s code then o else is_left_out)
     used_or_gone now i code o known goes may = by_test (is_used a s code) refl
       where
@@ -276,13 +299,15 @@ module _ (s : ParseState) (file : IsFileState s) (remaining : List (Option Signa
     goes now (scalar digit code) is allows whole = change_may now is (scalar digit code) code (λ l. if is_some
         (first_with_code code (amended_of l)) then value_fate now (amended_code code cs) else is_left_out)
         (and_parts now.in_body _ (allows.0).0).0 allows whole (passed UnknownCode _ [] (allows.0).1).0 (λ known.
-        used_or_gone now (scalar digit code) code _ known (λ h. h) (value_may now (scalar digit code) code known
+        used_or_gone now (scalar digit code) code _ known (λ h. or_right _ _ h) (value_may now (scalar digit code) code
+        known
         (λ h. h)
         (amended_code code cs) refl))
     goes now (vector first digits code) is allows whole = change_may now is (vector first digits code) code (λ l. if
         is_some (first_with_code code (amended_of l)) then value_fate now (amended_code code cs) else is_left_out)
         (and_parts now.in_body _ (allows.0).0).0 allows whole (digits_known now first digits code allows.0) (λ known.
-        used_or_gone now (vector first digits code) code _ known (λ h. h) (value_may now (vector first digits code) code
+        used_or_gone now (vector first digits code) code _ known (λ h. or_right _ _ h) (value_may now
+        (vector first digits code) code
         known (λ h. h) (amended_code code cs) refl))
     goes now (real_or_string first text code) is allows whole = change_may now is (real_or_string first text code) code
         (λ
@@ -292,6 +317,30 @@ module _ (s : ParseState) (file : IsFileState s) (remaining : List (Option Signa
     goes now (dump_word word) is allows whole = tt
     goes now (other word words) is allows whole = tt
 
+    -- nothing goes that is a stamp
+    goes_within : (now : ParseState) (i : Item) → go now i ≡ true → (state_after_item now i).tick ≡ now.tick
+    goes_within now (entry kind words) may = refl
+    goes_within now (timescale words) may = refl
+    goes_within now (scope kind words) may = refl
+    goes_within now upscope may = refl
+    goes_within now (variable words) may = refl
+    goes_within now end_definitions may = refl
+    goes_within now (stamp digits) may = absurd (false≢true may)
+    goes_within now (scalar digit code) may = refl
+    goes_within now (vector first digits code) may = refl
+    goes_within now (real_or_string first text code) may = refl
+    goes_within now (dump_word word) may = refl
+    goes_within now (other word words) may = refl
+
+    pub become : (limit : ℕ) (pieces : List Piece) → AllowsAll (initial_state limit) (items_of pieces)
+        → state_of_pieces limit pieces ≡ s
+        → may_become go come (initial_state limit) 0 pieces (made a true (initial_state limit) pieces) ≡ true
+    become limit pieces allows is =
+        let due = due_come come (λ kind words. refl) refl (λ digits. refl) a values added in
+        let inserted = inserted_come come (λ kind words. refl) refl (λ digits. refl) a values added in
+        pieces_become go come goes_within a s inserted (λ now. due now now.tick) goes true (initial_state limit) pieces
+        allows is
+
 pub untouched_items_stand : UntouchedItemsStand
 untouched_items_stand limit file pieces tail s remaining derived text cut allows is in_body are sound few text_is =
     let state : IsFileState s = subst IsFileState (sym is) (state_of_file limit pieces allows cut.spelled) in
@@ -300,14 +349,16 @@ untouched_items_stand limit file pieces tail s remaining derived text cut allows
     let room : length (signals_left remaining) + length derived ≤ s.limit = omega (arith, few, limited) in
     let a : Amendment = amendment_for s remaining derived in
     let signals : List SignalContents = signals_left remaining ++ derived in
-    let all = found s state remaining derived are sound room in
-    let more = added s state remaining derived are sound room in (
+    let made_of : List Piece = made a true (initial_state limit) pieces in (
       subst (λ l. FileMeans limit l (record (meaning s) { signals = signals }) (count_by is_skipped s.declared)) (sym
-          text_is) (other_capture_of_pieces limit pieces tail remaining derived s is cut.spelled cut.spaces cut.apart
-          cut.end allows (ap (λ (u : ParseState). u.in_body) (sym is) ∙ in_body) are
+          text_is) (other_capture_of_pieces limit file pieces tail remaining derived s is cut allows
+          (ap (λ (u : ParseState). u.in_body) (sym is) ∙ in_body) are
           sound few),
-      subst (λ l. BecomesText (may_go s remaining) (may_come a signals) tail (initial_state limit) pieces l) (sym
-          text_is) (pieces_become a s (fit s state remaining derived are sound room) (may_go s remaining) (may_come a
-          signals) tail (inserted_come a signals all more) (λ now. due_come a signals all more now now.tick) (goes s
-          state remaining derived are sound room) true (initial_state limit) pieces allows (sym is) cut.spelled),
+      record {
+        made = made_of;
+        cut = subst (λ l. IsCut l made_of tail) (sym text_is) (made_is_cut a s (fit s state remaining derived are sound
+            room) file (initial_state limit) pieces tail cut allows);
+        stand = subst (λ u. may_become (may_go u remaining) (may_be_put_in u remaining signals) (initial_state limit) 0
+            pieces made_of ≡ true) is (become s state remaining derived are sound room limit pieces allows (sym is));
+      },
     )

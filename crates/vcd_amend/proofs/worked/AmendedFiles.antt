@@ -28,7 +28,7 @@ use Rattle.vcd_amend.specs.GivenCodes.{coded_signals, coded_derived, coded_waves
 abbrev pub top : ScopeName
 top = record { kind = codes "module"; words = codes "top" ∷ [] }
 
-abbrev wire : List ℕ → List ℕ → Item
+abbrev pub wire : List ℕ → List ℕ → Item
 wire code name = variable (codes "wire" ∷ codes "1" ∷ code ∷ name ∷ [])
 
 abbrev real : Item
@@ -181,7 +181,7 @@ early_meaning = refl
 
 -- ==== the bytes of an amended file
 
-abbrev piece : Item → (space body : List ℕ) → Piece
+abbrev pub piece : Item → (space body : List ℕ) → Piece
 piece item space body = record { item = item; space = space; body = body }
 
 -- a variable with white space of every kind: a line feed is 10, a tab 9
@@ -226,7 +226,7 @@ state = state_after (initial_state 8) (wire (codes "!") (codes "a") ∷ variable
     ∷ stamp (codes "9")
     ∷ [])
 
-abbrev signal : List ℕ → List Change → SignalContents
+abbrev pub signal : List ℕ → List Change → SignalContents
 signal name changes =
     record { scopes = []; kind = codes "wire"; words = name ∷ []; width = 1; changes = changes }
 

@@ -17,7 +17,7 @@ use Rattle.vcd_text.specs.Meaning.{declared_signal, meaning, FileMeans}
 use Rattle.vcd_copy.specs.Pieces.{Piece, IsCut, state_of_pieces}
 use Rattle.vcd_amend.specs.Amendment.{Amendment}
 use Rattle.vcd_amend.specs.AmendedText.{amended_text}
-use Rattle.vcd_amend.specs.WhatStands.{may_go, may_come, BecomesText}
+use Rattle.vcd_amend.specs.WhatStands.{ItemsStand}
 use Rattle.vcd_amend.specs.GivenCodes.{IsSignalOf, AreSignalsOf, signals_left, amendment_for}
 use Rattle.vcd_text.proofs.shared.SoundMeaning.{meaning_is_sound}
 use Rattle.vcd_amend.proofs.what_stands.Whole.{untouched_items_stand}
@@ -272,7 +272,7 @@ pub amended_run_is_meant : (file : List ℕ) (s : ParseState) (depth : ℕ) (lin
     let text : List ℕ = amended_text a true (initial_state SIGNAL_LIMIT) pieces tail in
     IsAfterCuts s t es
     → FileMeans SIGNAL_LIMIT text after skipped
-    × BecomesText (may_go t remaining) (may_come a after.signals) tail (initial_state SIGNAL_LIMIT) pieces text
+    × ItemsStand SIGNAL_LIMIT remaining after.signals pieces tail text
 amended_run_is_meant file s depth lines after_cuts pieces tail accepted cut allows in_body same_cuts =
     let c : Contents = meaning s in
     let skipped : ℕ = count_by is_skipped s.declared in
@@ -299,6 +299,5 @@ amended_run_is_meant file s depth lines after_cuts pieces tail accepted cut allo
           (subst (λ (d : Contents). FileMeans SIGNAL_LIMIT text d (count_by is_skipped t.declared))
           (ap (λ (ss : List SignalContents). record (meaning t) { signals = ss }) all
           ∙ sym (replay_after_cuts s t es same_cuts)) stand.0),
-      subst (λ (ss : List SignalContents).
-          BecomesText (may_go t remaining) (may_come a ss) tail (initial_state SIGNAL_LIMIT) pieces text) all stand.1,
+      subst (λ (ss : List SignalContents). ItemsStand SIGNAL_LIMIT remaining ss pieces tail text) all stand.1,
     )

@@ -1,21 +1,16 @@
 -- A file on which the edits of a run are made in place means the last capture.
-use Rattle.std.proofs.Common.{◌≡◌, ℕ, zero, suc, Bool, true, false, if◌then◌else◌, List, [], ◌∷◌, ◌++◌}
+use Rattle.std.proofs.Common.{◌≡◌, ℕ, Bool, List, [], ◌∷◌}
 use Rattle.std.proofs.Common.{map, refl, ap, sym, subst, ◌∙◌, arith, IsTrue}
-use Rattle.std.specs.Prelude.{count_by, ◌==◌, length, decimal}
-use Rattle.std.proofs.lemmas.Bool.Decides.{nat_tests}
-use Rattle.vcd_core.specs.Decimal.{number_of}
+use Rattle.std.specs.Prelude.{count_by, length}
 use Rattle.vcd_core.specs.declared.capture.TheConstants.{SIGNAL_LIMIT}
 use Rattle.vcd_core.specs.Contents.{Contents}
 use Rattle.vcd_text.specs.Words.{words_of}
-use Rattle.vcd_text.specs.Items.{Item, stamp, scalar, vector, real_or_string}
-use Rattle.vcd_text.specs.Grammar.{ParseState, initial_state, state_after, state_after_item, AllowsAll, Accepts}
+use Rattle.vcd_text.specs.Grammar.{ParseState, initial_state, state_after, AllowsAll, Accepts}
 use Rattle.vcd_text.specs.Grammar.{is_skipped}
 use Rattle.vcd_text.specs.Meaning.{meaning, FileMeans}
-use Rattle.vcd_amend.specs.WhatStands.{may_go, may_come, BecomesText}
+use Rattle.vcd_amend.specs.WhatStands.{ItemsStand}
 use Rattle.vcd_copy.specs.Pieces.{Piece, IsCut, state_of_pieces}
-use Rattle.vcd_amend.specs.Retimed.{new_tick, retimed_signal, retimed_pieces, retimed_fate, pieces_in_place, is_past}
-use Rattle.vcd_amend.specs.Retimed.{change_key, held_with}
-use Rattle.vcd_amend.specs.AmendedItems.{stands, is_exchanged}
+use Rattle.vcd_amend.specs.Retimed.{new_tick, retimed_signal}
 use Rattle.vcd_amend.specs.RetimedLaws.{is_in_cut, tick_before_cut, pieces_after, bytes_of, MeansRetimed}
 use Rattle.vcd_amend.specs.RetimedLaws.{CanBeRetimed}
 use Rattle.vcd_text.proofs.shared.SoundMeaning.{meaning_is_sound}
@@ -36,7 +31,7 @@ use Rattle.vcd_amend_run.specs.AmendedRun.{IsAfterCuts}
 use Rattle.vcd_amend_run.specs.EditedText.{is_cut_out_by, edited_text, CutsInForceLeaveTicks}
 use Rattle.vcd_amend_run.specs.EditedText.{RetimedCaptureIsReplayOfCuts}
 use Rattle.vcd_amend_run.specs.EditedText.{AcceptedFileHasPieces, EditedTextMeansLastCapture}
-use Rattle.vcd_amend_run.specs.EditedText.{remaining_of_run, pieces_after_cuts, amendment_of_run}
+use Rattle.vcd_amend_run.specs.EditedText.{remaining_of_run, pieces_after_cuts}
 use Rattle.vcd_amend_run.specs.EditedText.{NoCutLeavesPieces}
 use Rattle.vcd_amend_run.proofs.laws.AmendedRuns.{amended_run_is_meant}
 use Rattle.vcd_hollow.proofs.shared.FittingCuts.{cuts_of_run_fit}
@@ -100,11 +95,8 @@ accepted_file_has_pieces file c skipped means =
 abbrev IsMeant : List Piece → List ℕ → ℕ → List (List ℕ) → Contents → ℕ → Type 0
 IsMeant pieces tail depth lines c skipped =
     FileMeans SIGNAL_LIMIT (edited_text c skipped depth lines pieces tail) (last_capture c skipped depth lines) skipped
-    × BecomesText (may_go (state_of_pieces SIGNAL_LIMIT (pieces_after_cuts c skipped depth lines pieces))
-    (remaining_of_run c skipped depth lines))
-    (may_come (amendment_of_run c skipped depth lines pieces) (last_capture c skipped depth lines).signals) tail
-    (initial_state SIGNAL_LIMIT) (pieces_after_cuts c skipped depth lines pieces)
-    (edited_text c skipped depth lines pieces tail)
+    × ItemsStand SIGNAL_LIMIT (remaining_of_run c skipped depth lines) (last_capture c skipped depth lines).signals
+    (pieces_after_cuts c skipped depth lines pieces) tail (edited_text c skipped depth lines pieces tail)
 
 module _ (file : List ℕ) (pieces : List Piece) (tail : List ℕ) (depth : ℕ) (lines : List (List ℕ))
     (cut : IsCut file pieces tail) (allowed : AllowsAll (initial_state SIGNAL_LIMIT) (map (λ p. p.item) pieces))
@@ -122,7 +114,7 @@ module _ (file : List ℕ) (pieces : List Piece) (tail : List ℕ) (depth : ℕ)
   fit : CutsFit (meaning s) es
   fit = cuts_of_run_fit (meaning s) skipped depth lines (length lines)
 
-  can : CanBeRetimed (is_cut_out_by es) (tick_before_cuts es) SIGNAL_LIMIT file pieces tail
+  pub can : CanBeRetimed (is_cut_out_by es) (tick_before_cuts es) SIGNAL_LIMIT file pieces tail
   can =
       let ticks = cuts_in_force_leave_ticks (meaning s) es fit in
       record { ticks = ticks.0; cut = cut; allowed = allowed; in_body = in_body; end = ticks.1 }

@@ -17,15 +17,20 @@ use Rattle.vcd_script.specs.Script.{script_lines}
 use Rattle.vcd_script.specs.Run.{RunOutcome, IsRun}
 use Rattle.vcd_amend_run.specs.declared.running.AmendRunError.{AmendRunError}
 use Rattle.vcd_amend_run.specs.declared.running.AmendRunError.TheVariants as errors
+use Rattle.vcd_amend_run.specs.declared.running.RunOptions.{RunOptions}
 use Rattle.vcd_amend_run.specs.AmendRun.{IsAmendRun}
 use Rattle.vcd_amend_run.specs.MarkedRun.{MarkedRunEnds}
 use Rattle.vcd_amend_run.specs.AmendRunEnds.{PassEnds, AllShow, FailsIn, TakesSkippedName, AmendRunEnds}
 use Rattle.vcd_amend_run.specs.AmendOnBytes.{IsEditedFile, IsRefusedLongFile, has_fault, too_large, AmendFails}
 use Rattle.vcd_amend_run.proofs.on_bytes.EditedFile.{run_of_amend_run}
 
+-- the options of a run on bytes
+abbrev plain : (depth : ℕ) → RunOptions
+plain depth = record { depth = depth; mark = None; is_all_or_nothing = false }
+
 -- without a mark a run ends as it is
 pub unmarked_ends : (depth : ℕ) (passes : PassEnds) (lines replies out : DeviceEnd) (summary : Summary)
-    → MarkedRunEnds depth None passes lines replies (Some out) (Ok summary)
+    → MarkedRunEnds (plain depth) passes lines replies (Some out) (Ok summary)
     → AmendRunEnds depth passes lines replies (Some out) (Ok summary)
 unfolding AmendRunEnds
 unmarked_ends depth passes lines replies out summary ends = (
@@ -95,7 +100,8 @@ module _ (file script : List ℕ) (depth : ℕ) (made : List ℕ) (passes : Pass
       (outline_ready : passes.outline.has_failed ≡ false) (changes_ready : passes.changes.has_failed ≡ false)
       (copy_ready : passes.copy.has_failed ≡ false) where
     -- and where an error ended it
-    pub refusal_of_run : (e : AmendRunError) → AmendRunEnds depth passes lines replies (Some output) (Err e)
+    pub refusal_of_run : (e : AmendRunError)
+        → MarkedRunEnds (plain depth) passes lines replies (Some output) (Err e)
         → AmendFails file script depth made e
     unfolding AmendRunEnds
     refusal_of_run (errors.Run (run_errors.Capture e)) (inl (inl fails, unwritten)) =
@@ -132,4 +138,5 @@ module _ (file script : List ℕ) (depth : ℕ) (made : List ℕ) (passes : Pass
         (run.0, run.1, one.2 ∙ ap concat run.2)
     refusal_of_run errors.NameOfSkipped ends =
         let found = ends.2 file script shows is_script in (nothing_made ends.1.0, found.0, found.1, found.2)
+    refusal_of_run errors.LineRefused ends = let no : false ≡ true = ends.asked in absurd (cc)
     refusal_of_run errors.CaptureChanged ends = absurd (ends.1 file shows)

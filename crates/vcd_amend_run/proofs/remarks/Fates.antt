@@ -8,8 +8,8 @@ use Rattle.std.proofs.lemmas.List.{append-nil, take_more, map-append}
 use Rattle.vcd_text.specs.AsDeclared.{declared_name}
 use Rattle.vcd_text.specs.Grammar.{VariableDeclaration}
 use Rattle.vcd_amend.specs.Amendment.{Amendment, Fate, fate_of, flat_map_along, variable_left, variables_left}
-use Rattle.vcd_amend_run.specs.OutputRemarks.{codes_left, is_left_apart, left_apart, is_removed_apart, is_removed_by}
-use Rattle.vcd_amend_run.specs.OutputRemarks.{removed_apart, removed_variables}
+use Rattle.vcd_amend_run.specs.OutputRemarks.{codes_left, is_left_apart, left_apart, is_removed_apart}
+use Rattle.vcd_amend_run.specs.OutputRemarks.{removed_apart}
 use Rattle.vcd_amend.specs.Amendment.{amended_variables}
 use Rattle.vcd_amend_run.specs.inside.OutputRemarks.{VariableFate, variable_fates, variables_by_fate}
 use Rattle.vcd_amend_run.specs.inside.OutputRemarks.{variables_in_place}
@@ -58,10 +58,6 @@ pub removed_apart_are : (a : Amendment) (ds : List VariableDeclaration)
     → variables_by_fate (is_removed_apart (amended_variables a ds)) (variable_fates a ds) ≡ removed_apart a ds
 removed_apart_are a ds =
     along_fates a (λ f d. if is_removed_apart (amended_variables a ds) f d then d ∷ [] else []) [] ds
-
-pub removed_are : (a : Amendment) (ds : List VariableDeclaration)
-    → variables_by_fate is_removed_by (variable_fates a ds) ≡ removed_variables a ds
-removed_are a ds = along_fates a (λ f d. if is_removed_by f d then d ∷ [] else []) [] ds
 
 pub in_place_are : (a : Amendment) (ds : List VariableDeclaration)
     → variables_in_place (variable_fates a ds) ≡ variables_left a ds

@@ -1,5 +1,5 @@
 -- How a run ends, at each place where it can.
-use Rattle.std.proofs.Common.{◌≡◌, inl, inr, Result, Ok, Err, ℕ, zero, suc, List, Option, Some}
+use Rattle.std.proofs.Common.{◌≡◌, ◌≢◌, inl, inr, Result, Ok, Err, ℕ, zero, suc, List, Option, Some}
 use Rattle.std.proofs.Common.{None}
 use Rattle.std.proofs.Common.{refl, sym, subst, ap, ◌∙◌, ◌-◌, ◌<◌, Bool, true, false, length, arith}
 use Rattle.std.specs.Prelude.{IfSome, IfErr, IsErrAnd, take, ◌≤◌}
@@ -47,7 +47,7 @@ use Rattle.vcd_amend_run.specs.inside.Running.{IsPlanned, IsEdited, EndsBeforeRe
 use Rattle.vcd_amend_run.specs.inside.Running.{EndsBeforeCopy, HasEditLines}
 use Rattle.vcd_amend_run.specs.MarkedRun.{MarkedRunEnds, mark_with}
 use Rattle.vcd_copy.specs.Marks.{IsMarkedFile}
-use Rattle.vcd_copy.specs.declared.marking.head.MarkHead.{MarkHead}
+use Rattle.vcd_amend_run.specs.declared.running.RunOptions.{RunOptions}
 use Rattle.vcd_amend_run.specs.inside.Running.{StopsInRun, error_of_hearing, error_of_copy}
 use Rattle.vcd_amend_run.proofs.running.PlannedRun.{sizes_agree, names_of_file}
 use Rattle.vcd_amend_run.proofs.running.CarriedOut.{is_run, same_replies}
@@ -91,44 +91,6 @@ module _ (depth : ℕ) (passes : PassEnds) (script replies : DeviceEnd) (declare
         ),
   )
 
-  -- the end with one, and with a mark if one is asked for
-  pub ends_with_output : (head : Option MarkHead) (edits : List (List ℕ)) (out : DeviceEnd) → AreEdited true
-      → ((file lines : List ℕ) → (passes.declarations.before ≡ Some file) × (passes.outline.before ≡ Some file)
-      × (passes.changes.before ≡ Some file) → script.before ≡ Some lines → HasEditLines file lines depth edits)
-      → replies.has_failed ≡ false → out.has_failed ≡ false
-      → IfSome passes.outline.before (λ file. length file ≤ LONG_FILE_LIMIT)
-      → IfSome passes.copy.before (λ file. (a : Amendment)
-      × IsAmendmentFor declared (capture_after_cuts first cs).signals ks last.signals a
-      × (marked : List ℕ) × IsMarkedFile SIGNAL_LIMIT (mark_with head edits) file marked
-      × (text : List ℕ) × IsAmendedAfterCuts SIGNAL_LIMIT (is_cut_by cs) a marked text
-      × Appends out.before out.after text)
-      → MarkedRunEnds depth head passes script replies (Some out) (Ok (record { refused = refused }))
-  ends_with_output head edits out edited edits_are ready out_ready short copied = record {
-    replies_ready = ready;
-    out_ready = out_ready;
-    possible = λ file lines shows script_shows.
-        let one = edited file lines (shows.0, shows.1, shows.2) script_shows in
-        let s : ParseState = one.means.state in
-        let all : List (List ℕ) = script_lines lines in (
-          s,
-          one.means.accepted,
-          λ taken. false≢true (sym (names_of_file file all depth declared one.skipped one.whole ks false one.means
-              one.origins_are (one.variables s one.means.accepted) (one.free refl)) ∙ taken),
-        );
-    short = short_file short;
-    run = λ file lines shows script_shows.
-        let one = edited file lines (shows.0, shows.1, shows.2) script_shows in
-        let here = subst (λ coming. IfSome coming (λ f. (a : Amendment)
-        × IsAmendmentFor declared (capture_after_cuts first cs).signals ks last.signals a
-        × (marked : List ℕ) × IsMarkedFile SIGNAL_LIMIT (mark_with head edits) f marked
-        × (text : List ℕ) × IsAmendedAfterCuts SIGNAL_LIMIT (is_cut_by cs) a marked text
-        × Appends out.before out.after text)) shows.3 copied in
-        let run = marked_is_written file lines here.2 depth (Appends replies.before replies.after) declared first ks cs
-        last refused here.4 head edits here.0 one (edits_are file lines (shows.0, shows.1, shows.2) script_shows)
-        here.1 here.3 here.5 in
-        (run.0, run.1, (run.2, subst (Appends out.before out.after) run.3 here.6, run.4));
-  }
-
   -- all replies are written
   replied : AreEdited true → ForAmendRun depth passes script replies None
       (λ written. HasText replies (concat written.replies))
@@ -149,6 +111,74 @@ module _ (depth : ℕ) (passes : PassEnds) (script replies : DeviceEnd) (declare
   unfolding AmendRunEnds
   ends_at_copy out (copy_errors.Read e) edited fails = inr (fails, replied edited)
   ends_at_copy out (copy_errors.Write e) edited fails = ((fails.1, fails.2), replied edited)
+
+-- ---- the end with an output, by what is asked of the run
+
+module _ (o : RunOptions) (passes : PassEnds) (script replies : DeviceEnd) (declared : List VariableDeclaration)
+    (first : Contents) (ks : List ℕ) (cs : List CutTicks) (last : Contents) (refused : ℕ) where
+  abbrev AreEditedFor : Bool → Type 0
+  AreEditedFor = AreEdited o.depth passes script replies declared first ks cs last refused
+
+  -- the file is written, with a mark if one is asked for
+  pub ends_with_output : (edits : List (List ℕ)) (out : DeviceEnd) → AreEditedFor true
+      → ((file lines : List ℕ) → (passes.declarations.before ≡ Some file) × (passes.outline.before ≡ Some file)
+      × (passes.changes.before ≡ Some file) → script.before ≡ Some lines → HasEditLines file lines o.depth edits)
+      → replies.has_failed ≡ false → out.has_failed ≡ false
+      → IfSome passes.outline.before (λ file. length file ≤ LONG_FILE_LIMIT)
+      → (o.is_all_or_nothing ≡ true → refused ≡ 0)
+      → IfSome passes.copy.before (λ file. (a : Amendment)
+      × IsAmendmentFor declared (capture_after_cuts first cs).signals ks last.signals a
+      × (marked : List ℕ) × IsMarkedFile SIGNAL_LIMIT (mark_with o.mark edits) file marked
+      × (text : List ℕ) × IsAmendedAfterCuts SIGNAL_LIMIT (is_cut_by cs) a marked text
+      × Appends out.before out.after text)
+      → MarkedRunEnds o passes script replies (Some out) (Ok (record { refused = refused }))
+  ends_with_output edits out edited edits_are ready out_ready short none_refused copied = record {
+    replies_ready = ready;
+    out_ready = out_ready;
+    possible = λ file lines shows script_shows.
+        let one = edited file lines (shows.0, shows.1, shows.2) script_shows in
+        let s : ParseState = one.means.state in
+        let all : List (List ℕ) = script_lines lines in (
+          s,
+          one.means.accepted,
+          λ taken. false≢true (sym (names_of_file file all o.depth declared one.skipped one.whole ks false one.means
+              one.origins_are (one.variables s one.means.accepted) (one.free refl)) ∙ taken),
+        );
+    short = short_file o.depth passes script replies declared first ks cs last refused short;
+    none_refused = none_refused;
+    run = λ file lines shows script_shows.
+        let one = edited file lines (shows.0, shows.1, shows.2) script_shows in
+        let here = subst (λ coming. IfSome coming (λ f. (a : Amendment)
+        × IsAmendmentFor declared (capture_after_cuts first cs).signals ks last.signals a
+        × (marked : List ℕ) × IsMarkedFile SIGNAL_LIMIT (mark_with o.mark edits) f marked
+        × (text : List ℕ) × IsAmendedAfterCuts SIGNAL_LIMIT (is_cut_by cs) a marked text
+        × Appends out.before out.after text)) shows.3 copied in
+        let run = marked_is_written file lines here.2 o.depth
+        (Appends replies.before replies.after) declared first ks cs
+        last refused here.4 o.mark edits here.0 one (edits_are file lines (shows.0, shows.1, shows.2) script_shows)
+        here.1 here.3 here.5 in
+        (run.0, run.1, (run.2, subst (Appends out.before out.after) run.3 here.6, run.4));
+  }
+
+  -- a line is refused, and so nothing is written
+  pub ends_unwritten : (out : DeviceEnd) → AreEditedFor true → o.is_all_or_nothing ≡ true → refused ≢ 0
+      → IsUntouched out
+      → MarkedRunEnds o passes script replies (Some out) (Err errors.LineRefused)
+  ends_unwritten out edited asked some untouched = record {
+    asked = asked;
+    untouched = untouched;
+    run = λ file lines shows script_shows.
+        let one = edited file lines (shows.0, shows.1, shows.2) script_shows in
+        let run = is_run file lines o.depth one.whole one.skipped one.means in (
+          run.0,
+          run.1,
+          (
+            subst (λ (texts : List (List ℕ)). Appends replies.before replies.after (concat texts)) (sym run.2)
+                one.replies,
+            subst (λ n. n ≢ 0) (one.count ∙ sym run.3) some,
+          ),
+        );
+  }
 
 -- ---- ends before the replies
 
@@ -307,6 +337,7 @@ module _ (depth : ℕ) (writes : Bool) (passes : PassEnds) (script replies : Dev
     lines_end (errors.Run (run_errors.Write fault)) (inl stops) output asked kept = absurd (cc)
     lines_end (errors.Run (run_errors.Write fault)) (inr stops) output asked kept = absurd stops.2
     lines_end errors.NameOfSkipped stops output asked kept = absurd stops
+    lines_end errors.LineRefused stops output asked kept = absurd stops
     lines_end errors.CaptureChanged stops output asked kept = absurd stops
 
 -- ---- errors passed on
@@ -317,10 +348,28 @@ pub at_error : {A E : Type 0} (r : Result A E) (error : E) (P : E → Type 0) �
 at_error (Ok v) error P gives holds = tt
 at_error (Err e) error P gives holds = rw gives holds
 
--- a run that an error ended
-pub ends_with : (r : Result Summary AmendRunError) (error : AmendRunError) (depth : ℕ) (head : Option MarkHead)
-    (passes : PassEnds) (script replies out : DeviceEnd) → IsErrAnd r (λ e. e ≡ error)
-    → AmendRunEnds depth passes script replies (Some out) (Err error)
-    → MarkedRunEnds depth head passes script replies (Some out) r
-ends_with (Ok summary) error depth head passes script replies out gives ends = absurd gives
-ends_with (Err e) error depth head passes script replies out gives ends = rw gives ends
+-- a run that an error ended, which is not that of a refused line
+error_ends : (o : RunOptions) (passes : PassEnds) (script replies out : DeviceEnd) (e : AmendRunError)
+    → AmendRunEnds o.depth passes script replies (Some out) (Err e)
+    → MarkedRunEnds o passes script replies (Some out) (Err e)
+unfolding AmendRunEnds
+error_ends o passes script replies out (errors.Run e) ends = ends
+error_ends o passes script replies out errors.NameOfSkipped ends = ends
+error_ends o passes script replies out errors.LineRefused ends = absurd ends
+error_ends o passes script replies out errors.CaptureChanged ends = ends
+
+pub ends_with : (r : Result Summary AmendRunError) (error : AmendRunError) (o : RunOptions) (passes : PassEnds)
+    (script replies out : DeviceEnd) → IsErrAnd r (λ e. e ≡ error)
+    → AmendRunEnds o.depth passes script replies (Some out) (Err error)
+    → MarkedRunEnds o passes script replies (Some out) r
+ends_with (Ok summary) error o passes script replies out gives ends = absurd gives
+ends_with (Err e) error o passes script replies out gives ends =
+    rw gives (error_ends o passes script replies out error ends)
+
+-- a run that a refused line ended
+pub unwritten_with : (r : Result Summary AmendRunError) (error : AmendRunError) (o : RunOptions) (passes : PassEnds)
+    (script replies out : DeviceEnd) → IsErrAnd r (λ e. e ≡ error) → error ≡ errors.LineRefused
+    → MarkedRunEnds o passes script replies (Some out) (Err errors.LineRefused)
+    → MarkedRunEnds o passes script replies (Some out) r
+unwritten_with (Ok summary) error o passes script replies out gives is ends = absurd gives
+unwritten_with (Err e) error o passes script replies out gives is ends = rw (gives ∙ is) ends

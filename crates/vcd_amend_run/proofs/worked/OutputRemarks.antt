@@ -42,16 +42,13 @@ amendment = record {
 abbrev apart : List ℕ
 apart = codes "output: variables of one code that differ from now on: top.a, top.b" ++ 10 ∷ []
     ++ codes "output: removed, but another variable of the same code stays: top.?" ++ 10 ∷ []
-    ++ codes "output: removed, but their time stamps stay, and scopes, comments, marks, namesakes and copies"
-    ++ codes " under other codes may tell of them: top.?, top.g" ++ 10 ∷ []
 
 without_cuts : output_remarks amendment declared false ≡ apart
 unfolding name_in
 without_cuts = refl
 
 with_cuts : output_remarks amendment declared true
-    ≡ apart ++ codes "output: comments, dump words and other commands at the ticks that are cut, if any, stay"
-    ++ 10 ∷ [] ++ codes "output: events at the ticks that are cut, if any, are left out: top.go" ++ 10 ∷ []
+    ≡ apart ++ codes "output: events at the ticks that are cut are left out: top.go" ++ 10 ∷ []
 unfolding name_in
 with_cuts = refl
 

@@ -1,5 +1,5 @@
-//! The variables that are left with another code than others of their code, those that are removed
-//! while others of their code are not, and all that are removed.
+//! The variables that are left with another code than others of their code, and those that are
+//! removed while others of their code are not.
 
 ghost use Rattle.std.specs.Prelude.{◌≡◌, ◌++◌, ℕ, List, map, is_some, IfOk};
 ghost use Rattle.vcd_text.specs.AsDeclared.{declared_name};
@@ -7,7 +7,7 @@ ghost use Rattle.vcd_text.specs.Grammar.{VariableDeclaration};
 ghost use Rattle.vcd_text.specs.inside.reading.CodeTargets.{code_target};
 ghost use Rattle.vcd_amend.specs.Amendment.{first_with_code};
 ghost use Rattle.vcd_amend.specs.AmendmentContents.{added_contents};
-ghost use Rattle.vcd_amend_run.specs.OutputRemarks.{is_removed_apart, is_removed_by};
+ghost use Rattle.vcd_amend_run.specs.OutputRemarks.{is_removed_apart};
 ghost use Rattle.vcd_amend_run.specs.inside.OutputRemarks.{fate_in_memory, variables_in_place};
 ghost use Rattle.vcd_amend_run.specs.inside.OutputRemarks.{variables_by_fate, HaveCodesOf};
 ghost use Rattle.vcd_amend_run.specs.inside.OutputRemarks.{HaveCodesLeft, VariableFate};
@@ -114,32 +114,6 @@ fn is_removed_apart(variable: &FatedVariable, uses: &CodeTargets<CodeUse>) -> bo
 {
     match variable.left {
         VariableLeft::Nothing => uses.get(variable.declared.code.as_slice()).is_used,
-        VariableLeft::Changed { .. } => false,
-        VariableLeft::All => false,
-    }
-}
-
-/// The names of the variables that are removed.
-pub fn removed_names(alloc: Global, fated: &[FatedVariable]) -> Result<Vec<Word>, NoMemory>
-    ensures { IfOk result (λ names. names.items
-        ≡ map declared_name (variables_by_fate is_removed_by (map fate_in_memory fated.now))) }
-{
-    let mut names = Vec::new(alloc);
-    for variable in fated {
-        if is_removed(variable) {
-            names.push(copy_name(alloc, variable.declared)?)?;
-        }
-    }
-    Ok(names)
-}
-
-/// Whether a variable is removed.
-fn is_removed(variable: &FatedVariable) -> bool
-    ensures { result ≡ is_removed_by (fate_in_memory variable.now).fate
-        (fate_in_memory variable.now).variable }
-{
-    match variable.left {
-        VariableLeft::Nothing => true,
         VariableLeft::Changed { .. } => false,
         VariableLeft::All => false,
     }

@@ -3,7 +3,7 @@ use Rattle.std.proofs.Common.{◌≡◌, ℕ, suc, ◌&&◌, not, Bool, true, fa
 use Rattle.std.proofs.Common.{ap, ◌∙◌}
 use Rattle.std.specs.List.{filter, flat_map, range_with_len, slice_split, onto_first}
 use Rattle.vcd_decode.specs.Spi.{has_sampling_edge, is_selected}
-use Rattle.vcd_remarks.specs.SpiSamples.{SpiSamplesAreOfWords}
+use Rattle.vcd_remarks.specs.SpiLine.{SpiSamplesAreOfWords}
 
 module _ (selected reads : ℕ → Bool) where
   -- the ticks of parts that are read, in turn

@@ -1,27 +1,37 @@
--- The changes that a `force` takes out: those counted so far, and those among the changes that are left.
-use Rattle.std.proofs.Common.{◌≡◌, ℕ, ◌+◌, ◌<◌, ◌≤◌, Bool, if◌then◌else◌, List, length, drop, get_or, ap, ◌∙◌, arith}
+-- The changes that a `force` takes out: those found so far, and those among the changes that are left.
+use Rattle.std.proofs.Common.{◌≡◌, ℕ, ◌+◌, ◌<◌, ◌≤◌, Bool, true, false, if◌then◌else◌, List, [], ◌∷◌, length, drop}
+use Rattle.std.proofs.Common.{get_or, refl, ap, sym, ◌∙◌}
 use Rattle.std.proofs.lemmas.List.{drop_all}
 use Rattle.vcd_core.specs.declared.bit.Bit.{Bit}
 use Rattle.vcd_core.specs.declared.wave.Change.{Change}
 use Rattle.vcd_edit.proofs.shared.Lists.{drop_here}
-use Rattle.vcd_remarks.specs.Remarks.{is_change_taken_out, changes_taken_out}
+use Rattle.vcd_remarks.specs.declared.findings.found_ticks.FoundTicks.{FoundTicks}
+use Rattle.vcd_remarks.specs.EditFindings.{is_change_taken_out, ticks_taken_out}
+use Rattle.vcd_remarks.specs.inside.FoundTicks.{with_tick, with_ticks}
 
-module _ (from to : ℕ) (value before : List Bit) (cs : List Change) (i : ℕ) where
+module _ (from to : ℕ) (value before : List Bit) (cs : List Change) (i : ℕ) (found : FoundTicks) where
   -- one change more
-  pub taken_out_goes_on : (c : Change) → i < length cs → c ≡ get_or cs i c → (taken : Bool)
-      → taken ≡ is_change_taken_out from to value before c → (count more all : ℕ) → more ≡ (if taken then 1 else 0)
-      → count + changes_taken_out from to value before (drop i cs) ≡ all
-      → count + more + changes_taken_out from to value c.value (drop (i + 1) cs) ≡ all
-  unfolding changes_taken_out
-  taken_out_goes_on c within at taken asked count more all one so_far =
-      let here = ap (changes_taken_out from to value before) (drop_here cs i c within at) in
-      let is = one ∙ ap {B = ℕ} (λ (b : Bool). if b then 1 else 0) asked in
-      omega (arith, here, is, so_far)
+  pub taken_out_more : (c : Change) → i < length cs → c ≡ get_or cs i c → (b : Bool)
+      → is_change_taken_out from to value before c ≡ b
+      → with_ticks (if b then with_tick found c.tick else found) (ticks_taken_out from to value c.value (drop
+      (i + 1) cs))
+      ≡ with_ticks found (ticks_taken_out from to value before (drop i cs))
+  unfolding ticks_taken_out with_ticks
+  taken_out_more c within at b asked =
+      by_test b
+      ∙ ap (λ q. with_ticks found (if q then c.tick ∷ rest else rest)) (sym asked)
+      ∙ ap (λ l. with_ticks found (ticks_taken_out from to value before l)) (sym (drop_here cs i c within at))
+    where
+      rest : List ℕ
+      rest = ticks_taken_out from to value c.value (drop (i + 1) cs)
+
+      by_test : (q : Bool) → with_ticks (if q then with_tick found c.tick else found) rest
+          ≡ with_ticks found (if q then c.tick ∷ rest else rest)
+      by_test true = refl
+      by_test false = refl
 
   -- none is left
-  pub taken_out_done : (count all : ℕ) → length cs ≤ i
-      → count + changes_taken_out from to value before (drop i cs) ≡ all → count ≡ all
-  unfolding changes_taken_out
-  taken_out_done count all past so_far =
-      let none = ap (changes_taken_out from to value before) (drop_all i cs past) in
-      omega (arith, none, so_far)
+  pub none_taken_out : length cs ≤ i
+      → with_ticks found (ticks_taken_out from to value before (drop i cs)) ≡ found
+  unfolding ticks_taken_out with_ticks
+  none_taken_out past = ap (λ l. with_ticks found (ticks_taken_out from to value before l)) (drop_all i cs past)

@@ -14,17 +14,22 @@ use Rattle.vcd_edit.specs.declared.edit.Edit.TheVariants.{Deglitch}
 use Rattle.vcd_edit.specs.Effect.{is_steady, effect}
 use Rattle.vcd_edit.specs.EffectLaws.{value_of}
 use Rattle.vcd_edit.proofs.shared.RunsOfOneValue.{steady_here}
-use Rattle.vcd_remarks.specs.Remarks.{edge_delay, edge_delays}
+use Rattle.vcd_remarks.specs.EditFindings.{edge_delay, delayed_edges}
+use Rattle.vcd_remarks.specs.declared.findings.found_spans.Span.{Span}
+use Rattle.vcd_remarks.specs.FoundTicks.{span}
 use Rattle.vcd_remarks.specs.ValueRuns.{ValueRun, is_pulse, value_runs}
 use Rattle.vcd_remarks.specs.RemarkLaws.{AreRunsFrom, IsTakenOutIfPulse, PulsesAreTakenOut}
 use Rattle.vcd_remarks.specs.RemarkLaws.{unsteady_before, delay_at, DelaysAreAll}
 use Rattle.vcd_remarks.proofs.remarks.AllRuns.{value_runs_are_all}
 use Rattle.vcd_remarks.proofs.remarks.PulsesTakenOut.{up_to_end}
-use Rattle.vcd_remarks.proofs.remarks.DelaysFound.{positive}
 
--- those after a delay
-positive_then : (d : ℕ) (xs ys : List ℕ) → positive xs ≡ positive ys → positive (d ∷ xs) ≡ positive (d ∷ ys)
-positive_then d xs ys same = ap (λ (l : List ℕ). cond (nat_lt 0 d) (d ∷ l) l) same
+-- the edges that are late
+abbrev positive : List Span → List Span
+positive ss = filter (λ s. nat_lt 0 s.ticks) ss
+
+-- those after an edge
+positive_then : (d : Span) (xs ys : List Span) → positive xs ≡ positive ys → positive (d ∷ xs) ≡ positive (d ∷ ys)
+positive_then d xs ys same = ap (λ (l : List Span). cond (nat_lt 0 d.ticks) (d ∷ l) l) same
 
 -- ---- steady ticks
 
@@ -70,8 +75,8 @@ module _ (c : Contents) (k ticks : ℕ) where
   abbrev steady : ℕ → Bool
   steady = is_steady ticks c.end f
 
-  abbrev delays : (t n : ℕ) → List ℕ
-  delays t n = map (delay_at c k ticks) (range_with_len t n)
+  abbrev delays : (t n : ℕ) → List Span
+  delays t n = map (λ s. span s (delay_at c k ticks s)) (range_with_len t n)
 
   abbrev staying : List ValueRun → List ValueRun
   staying rs = filter (λ r. not (is_pulse ticks c.end r)) rs
@@ -93,18 +98,18 @@ module _ (c : Contents) (k ticks : ℕ) where
       count = omega arith
   no_edges t (suc n) m same =
       ap (λ j. positive (delays t j)) {x = suc n + m} {y = suc (n + m)} (omega arith)
-      ∙ ap (λ d. positive (d ∷ delays (t + 1) (n + m))) (no_delay t (same t (omega arith) (omega arith)))
+      ∙ ap (λ d. positive (span t d ∷ delays (t + 1) (n + m))) (no_delay t (same t (omega arith) (omega arith)))
       ∙ no_edges (t + 1) n m (λ s from to. same s (omega arith) (omega arith))
       ∙ ap (λ s. positive (delays s m)) {x = t + 1 + n} {y = t + suc n} (omega arith)
 
   -- those from the first tick of a run on
   from_run : (r : ValueRun) (n m : ℕ) → r.first + n ≡ suc r.last + m → r.first ≤ r.last
       → ((t : ℕ) → r.first < t → t ≤ r.last → after t ≡ after (t - 1))
-      → positive (delays r.first n) ≡ positive (delay_at c k ticks r.first ∷ delays (suc r.last) m)
+      → positive (delays r.first n) ≡ positive (span r.first (delay_at c k ticks r.first) ∷ delays (suc r.last) m)
   from_run r n m whole ordered same =
       let p : ℕ = r.last - r.first in
       ap (λ j. positive (delays r.first j)) {x = n} {y = suc (p + m)} (omega arith)
-      ∙ positive_then (delay_at c k ticks r.first) (delays (r.first + 1) (p + m)) (delays (suc r.last) m)
+      ∙ positive_then (span r.first (delay_at c k ticks r.first)) (delays (r.first + 1) (p + m)) (delays (suc r.last) m)
       (no_edges (r.first + 1) p m (λ s from to. same s (omega arith) (omega arith))
       ∙ ap (λ s. positive (delays s m)) {x = r.first + 1 + p} {y = suc r.last} (omega arith))
 
@@ -114,8 +119,8 @@ module _ (c : Contents) (k ticks : ℕ) where
       → AreRunsFrom f from c.end rs → All (IsTakenOutIfPulse c k ticks) rs
       → (from ≤ c.end → f from ≢ f (from - 1)) → after (from - 1) ≡ before.value → before.last < from
       → unsteady_before steady from ≡ from - before.last - 1
-      → positive (delays from n) ≡ positive (edge_delays (before ∷ staying rs))
-  unfolding edge_delays
+      → positive (delays from n) ≡ positive (delayed_edges (before ∷ staying rs))
+  unfolding delayed_edges
   follow before [] from n some whole done out other same past unsteady =
       ap (λ j. positive (delays from j)) {x = n} {y = 0} (omega arith)
   follow before (r ∷ rs) from n some whole (at, ordered, alike, changes, rest) out other same past unsteady =
@@ -140,29 +145,32 @@ module _ (c : Contents) (k ticks : ℕ) where
             let kept : (t : ℕ) → r.first ≤ t → t ≤ r.last → after t ≡ after (r.first - 1) =
             λ t late early. here t late early
             ∙ ap (λ b. if b then after (r.first - 1) else r.value) pulse in
-            ap (λ d. positive (d ∷ delays (suc r.last) m)) (no_delay r.first (kept r.first (omega arith) ordered))
+            ap (λ d. positive (span r.first d
+            ∷ delays (suc r.last) m)) (no_delay r.first (kept r.first (omega arith) ordered))
             ∙ follow before rs (suc r.last) m (omega arith) (omega arith) rest later next
             (ap after last ∙ kept r.last ordered (omega arith) ∙ prior) (omega arith)
             (ap (unsteady_before steady) {x = suc r.last} {y = r.first + (suc r.last - r.first)} (omega arith)
             ∙ unsteady_row steady r.first (suc r.last - r.first)
             (λ t late early. tests t late (omega arith) ∙ ap not pulse)
             ∙ ap (λ u. u + (suc r.last - r.first)) count ∙ omega arith)
-            ∙ ap (λ b. positive (edge_delays (before ∷ cond (not b) (r ∷ staying rs) (staying rs)))) (sym pulse)
+            ∙ ap (λ b. positive (delayed_edges (before ∷ cond (not b) (r ∷ staying rs) (staying rs)))) (sym pulse)
         | inr stays ↦
             let kept : (t : ℕ) → r.first ≤ t → t ≤ r.last → after t ≡ r.value =
             λ t late early. here t late early
             ∙ ap (λ b. if b then after (r.first - 1) else r.value) stays in
             let first : after r.first ≡ r.value = kept r.first (omega arith) ordered in
-            (λ i. positive ((if same_letters (first i) (prior i) then 0 else count i) ∷ delays (suc r.last) m))
-            ∙ positive_then (edge_delay before r) (delays (suc r.last) m) (edge_delays (r ∷ staying rs))
+            (λ i. positive (span r.first (if same_letters (first i) (prior i) then 0 else count i)
+            ∷ delays (suc r.last) m))
+            ∙ positive_then (span r.first (edge_delay before r)) (delays (suc r.last) m) (delayed_edges (r
+            ∷ staying rs))
             (follow r rs (suc r.last) m (omega arith) (omega arith) rest later next
             (ap after last ∙ kept r.last ordered (omega arith)) (omega arith)
             (none_after steady r.last (tests r.last ordered (omega arith) ∙ ap not stays) ∙ omega arith))
-            ∙ ap (λ b. positive (edge_delays (before ∷ cond (not b) (r ∷ staying rs) (staying rs)))) (sym stays)
+            ∙ ap (λ b. positive (delayed_edges (before ∷ cond (not b) (r ∷ staying rs) (staying rs)))) (sym stays)
       ]
 
   from_zero : (rs : List ValueRun) → AreRunsFrom f 0 c.end rs → All (IsTakenOutIfPulse c k ticks) rs
-      → positive (edge_delays (staying rs)) ≡ positive (delays 0 (suc c.end))
+      → positive (delayed_edges (staying rs)) ≡ positive (delays 0 (suc c.end))
   from_zero [] runs out = absurd (omega (arith, runs))
   from_zero (r ∷ rs) (at, ordered, alike, changes, rest) out =
       let within : r.last ≤ c.end = omega (arith, up_to_end f (suc r.last) c.end rs rest) in
@@ -173,7 +181,7 @@ module _ (c : Contents) (k ticks : ℕ) where
       let kept : (t : ℕ) → r.first ≤ t → t ≤ r.last → after t ≡ r.value =
       λ t late early. All-head (IsTakenOutIfPulse c k ticks) r rs out t late early
       ∙ ap (λ b. if b then after (r.first - 1) else r.value) stays in
-      ap (λ b. positive (edge_delays (cond (not b) (r ∷ staying rs) (staying rs)))) stays
+      ap (λ b. positive (delayed_edges (cond (not b) (r ∷ staying rs) (staying rs)))) stays
       ∙ sym (ap (λ j. positive (delays 0 j)) {x = suc c.end} {y = suc r.last + m} (omega arith)
       ∙ no_edges 0 (suc r.last) m
       (λ t late early. kept t (omega arith) (omega arith) ∙ sym (kept (t - 1) (omega arith) (omega arith)))

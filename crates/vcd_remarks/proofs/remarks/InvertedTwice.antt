@@ -5,7 +5,7 @@ use Rattle.vcd_core.specs.declared.bit.Bit.{Bit}
 use Rattle.vcd_core.specs.declared.bit.Bit.TheVariants.{Zero, One, X, Z}
 use Rattle.vcd_core.specs.Value.{same_letters}
 use Rattle.vcd_edit.specs.Operators.{not_bit}
-use Rattle.vcd_remarks.specs.Remarks.{is_z}
+use Rattle.vcd_remarks.specs.EditFindings.{is_z}
 
 pub z_differs : (v : List Bit) → not (same_letters (map not_bit (map not_bit v)) v) ≡ list_any is_z v
 z_differs [] = refl

@@ -7,10 +7,10 @@ use Rattle.vcd_core.specs.Value.{all_x}
 use Rattle.vcd_core.specs.Wave.{change}
 use Rattle.vcd_core.specs.Contents.{Contents, signal_at}
 use Rattle.vcd_remarks.specs.declared.remarks.pulses.Spans.{Spans}
-use Rattle.vcd_remarks.specs.Remarks.{greatest, deglitch_remark}
+use Rattle.vcd_remarks.specs.FoundTicks.{greatest}
 use Rattle.vcd_remarks.specs.ValueRuns.{ValueRun, run_begun, runs_begun, changes_from_zero, is_pulse, ticks_of_run}
-use Rattle.vcd_remarks.specs.ValueRuns.{value_runs, shorter_runs}
-use Rattle.vcd_remarks.specs.inside.remarks.Parts.{pulse_ticks, with_span, pulses_text}
+use Rattle.vcd_remarks.specs.ValueRuns.{value_runs}
+use Rattle.vcd_remarks.specs.inside.remarks.Parts.{pulse_ticks, with_span}
 use Rattle.vcd_remarks.proofs.remarks.RunsLeft.{runs_left, no_runs_left}
 
 -- ---- one run more
@@ -84,31 +84,3 @@ pulses_of_changes ticks end width (c ∷ cs) = by_first (c.tick == 0) where
       ≡ filter (is_pulse ticks end) (runs_begun end (if b then c ∷ cs else change 0 (all_x width) ∷ c ∷ cs))
   by_first true = refl
   by_first false = refl
-
--- those of a signal of a capture
-pub pulses_of_signal : (c : Contents) (k ticks end count : ℕ) (cs : List Change) → end ≡ c.end
-    → cs ≡ (signal_at c k).changes → count ≡ length (filter (is_pulse ticks end) (runs_begun end cs))
-    → count ≡ shorter_runs ticks c.end (signal_at c k)
-pulses_of_signal c k ticks end count cs ends same is =
-    is ∙ (λ i. length (filter (is_pulse ticks (ends i)) (runs_begun (ends i) (same i))))
-    ∙ ap length (pulses_of_changes ticks c.end (signal_at c k).width (signal_at c k).changes)
-
--- ---- the remark
-
--- a count and the longest of pulses as text
-remark_of_pulses : (found : Spans) (pulses : List ValueRun) → found.count ≡ length pulses
-    → found.longest ≡ greatest (map ticks_of_run pulses) → pulses_text found ≡ deglitch_remark pulses
-remark_of_pulses found [] count longest =
-    λ i. pulses_text (record { count = count i; longest = longest i })
-remark_of_pulses found (r ∷ rs) count longest =
-    λ i. pulses_text (record { count = count i; longest = longest i })
-
--- on a signal of a capture
-pub remark_on_pulses : (c : Contents) (k ticks end : ℕ) (cs : List Change) (found : Spans) → end ≡ c.end
-    → cs ≡ (signal_at c k).changes → found.count ≡ length (filter (is_pulse ticks end) (runs_begun end cs))
-    → found.longest ≡ greatest (map ticks_of_run (filter (is_pulse ticks end) (runs_begun end cs)))
-    → pulses_text found ≡ deglitch_remark (filter (is_pulse ticks c.end) (value_runs c.end (signal_at c k)))
-remark_on_pulses c k ticks end cs found ends same count longest =
-    remark_of_pulses found (filter (is_pulse ticks end) (runs_begun end cs)) count longest
-    ∙ (λ i. deglitch_remark (filter (is_pulse ticks (ends i)) (runs_begun (ends i) (same i))))
-    ∙ ap deglitch_remark (pulses_of_changes ticks c.end (signal_at c k).width (signal_at c k).changes)

@@ -1,14 +1,12 @@
 -- The edges amid bits, change by change: each is looked at with the newest frame alone.
-use mir.Val.{bool_byte}
-use Rattle.std.proofs.Common.{◌≡◌, ℕ, ◌<◌, ◌≤◌, true, false, Some, None, refl, ◌+◌, ◌-◌, arith, Bool, ◌&&◌, not}
+use Rattle.std.proofs.Common.{◌≡◌, ℕ, ◌^◌, ◌<◌, ◌≤◌, true, false, Some, None, refl, ◌+◌, ◌-◌, arith, Bool, ◌&&◌, not}
 use Rattle.std.proofs.Common.{◌||◌, nat_lt, if◌then◌else◌, Option, List, [], ◌∷◌, ◌++◌, length, get_or, drop, drop-cons}
 use Rattle.std.proofs.Common.{sym, ap, ◌∙◌, add-one, inl, inr}
 use Rattle.std.specs.Prelude.{IfSome}
-use Rattle.std.specs.List.{count_by, list_any}
+use Rattle.std.specs.List.{flat_map, list_any}
 use Rattle.std.specs.Option.{option_to_list, option_map_or, unwrap_or}
 use Rattle.std.proofs.lemmas.Bool.{le-ltb, lt-ltb, cases_lt}
-use Rattle.std.proofs.lemmas.List.{drop_all}
-use Rattle.std.proofs.lemmas.List.Sums.{sum_by-cons}
+use Rattle.std.proofs.lemmas.List.{drop_all, length-append}
 use Rattle.vcd_core.specs.declared.bit.Bit.{Bit}
 use Rattle.vcd_core.specs.declared.wave.Change.{Change}
 use Rattle.vcd_core.specs.Wave.{AreChangesFrom}
@@ -17,7 +15,11 @@ use Rattle.vcd_decode.specs.declared.annotation.Kind.{Kind}
 use Rattle.vcd_decode.specs.UartSetup.{UartSetup}
 use Rattle.vcd_decode.specs.Lines.{is_zero, is_one, annotation}
 use Rattle.vcd_decode.specs.Uart.{begun_frame, frames, sample_tick, last_bit}
+use Rattle.vcd_remarks.specs.declared.findings.found_ticks.FoundTicks.{FoundTicks}
+use Rattle.vcd_remarks.specs.FoundTicks.{found_ticks}
 use Rattle.vcd_remarks.specs.UartEdges.{is_amid_bit_of}
+use Rattle.vcd_remarks.specs.inside.FoundTicks.{with_tick}
+use Rattle.vcd_remarks.proofs.shared.FoundSoFar.{FoundSoFar, next_tick, has_room, all_found}
 use Rattle.vcd_decode.specs.AmidBit.{is_amid_bit}
 use Rattle.vcd_decode.proofs.shared.Falls.{letter_of, fall_ticks, one_change}
 
@@ -58,17 +60,30 @@ begun_at f end u start =
 
 -- ---- the edges of the changes that are left
 
+-- the tick of a change, if it passes a test
+abbrev pub if_amid : Bool → Change → List ℕ
+if_amid b c = if b then c.tick ∷ [] else []
+
+-- the ticks of changes that are amid a bit of some frames
+abbrev pub ticks_amid : UartSetup → List Annotation → List Change → List ℕ
+ticks_amid u fs cs = flat_map (λ c. if_amid (list_any (is_amid_bit_of u c.tick) fs) c) cs
+
 -- the frame that a change begins after the tick `taken`
 abbrev pub new_frame : (begun : ℕ → Option Annotation) (taken : ℕ) (before : Bit) → Change → Option Annotation
 new_frame begun taken before c =
     if is_one before && is_zero (letter_of c) && nat_lt taken c.tick then begun c.tick else None
 
--- how many of the changes left are amid a bit of the newest frame
-pub edges_left : (begun : ℕ → Option Annotation) (u : UartSetup) (frame : Annotation) (before : Bit) → List Change → ℕ
-edges_left begun u frame before [] = 0
+-- the ticks of the changes left that are amid a bit of the newest frame
+pub edges_left : (begun : ℕ → Option Annotation) (u : UartSetup) (frame : Annotation) (before : Bit) → List Change
+    → List ℕ
+edges_left begun u frame before [] = []
 edges_left begun u frame before (c ∷ cs) =
-    (if is_amid_bit_of u c.tick (unwrap_or (new_frame begun frame.end before c) frame) then 1 else 0)
-    + edges_left begun u (unwrap_or (new_frame begun frame.end before c) frame) (letter_of c) cs
+    if_amid (is_amid_bit_of u c.tick (unwrap_or (new_frame begun frame.end before c) frame)) c
+    ++ edges_left begun u (unwrap_or (new_frame begun frame.end before c) frame) (letter_of c) cs
+
+at_most_one : (b : Bool) (c : Change) → length (if_amid b c) ≤ 1
+at_most_one true c = omega arith
+at_most_one false c = omega arith
 
 both : (P : Type 0) (Q : Annotation → Type 0) (o : Option Annotation) → P → IfSome o Q → IfSome o (λ a. P × Q a)
 both P Q None p q = tt
@@ -111,42 +126,35 @@ module _ (begun : ℕ → Option Annotation) (begins : (t : ℕ) → IfSome (beg
 
   -- changes after a frame are in the others
   frame_over : (frame : Annotation) (fs : List Annotation) (floor : ℕ) (v : List Bit) (cs : List Change)
-      → frame.end ≤ floor → AreChangesFrom floor v cs
-      → count_by (λ (d : Change). list_any (amid d.tick) (frame ∷ fs)) cs
-      ≡ count_by (λ (d : Change). list_any (amid d.tick) fs) cs
+      → frame.end ≤ floor → AreChangesFrom floor v cs → ticks_amid u (frame ∷ fs) cs ≡ ticks_amid u fs cs
   frame_over frame fs floor v [] over rise = refl
   frame_over frame fs floor v (c ∷ cs) over (from, other, wide, rest) =
-      sum_by-cons (λ (d : Change). if list_any (amid d.tick) (frame ∷ fs) then 1 else 0) c cs
-      ∙ (λ i. (if not_after u c.tick frame (omega (arith, over, from)) i || list_any (amid c.tick) fs then 1 else 0)
-      + frame_over frame fs (c.tick + 1) c.value cs (omega (arith, over, from)) rest i)
-      ∙ sym (sum_by-cons (λ (d : Change). if list_any (amid d.tick) fs then 1 else 0) c cs)
+      λ i. if_amid (not_after u c.tick frame (omega (arith, over, from)) i || list_any (amid c.tick) fs) c
+      ++ frame_over frame fs (c.tick + 1) c.value cs (omega (arith, over, from)) rest i
 
-  counted : (a : Annotation) (c : Change) (cs : List Change) (fs : List Annotation) (n : ℕ)
-      → list_any (amid c.tick) fs ≡ false → n ≡ count_by (λ (d : Change). list_any (amid d.tick) (a ∷ fs)) cs
-      → (if amid c.tick a then 1 else 0) + n
-      ≡ count_by (λ (d : Change). list_any (amid d.tick) (a ∷ fs)) (c ∷ cs)
-  counted a c cs fs n none is =
-      (λ i. (if sym (ap (λ b. amid c.tick a || b) none ∙ or_false (amid c.tick a)) i then 1 else 0) + is i)
-      ∙ sym (sum_by-cons (λ (d : Change). if list_any (amid d.tick) (a ∷ fs) then 1 else 0) c cs)
+  noted : (a : Annotation) (c : Change) (cs : List Change) (fs : List Annotation) (ts : List ℕ)
+      → list_any (amid c.tick) fs ≡ false → ts ≡ ticks_amid u (a ∷ fs) cs
+      → if_amid (amid c.tick a) c ++ ts ≡ ticks_amid u (a ∷ fs) (c ∷ cs)
+  noted a c cs fs ts none is =
+      λ i. if_amid (sym (ap (λ b. amid c.tick a || b) none ∙ or_false (amid c.tick a)) i) c ++ is i
 
-  one_left : (frame : Annotation) (c : Change) (cs : List Change) (later : ℕ → List Annotation) (left : Annotation → ℕ)
-      (v : List Bit) (o : Option Annotation) → IfSome o (λ a. (frame.end ≤ c.tick) × (a.start ≡ c.tick))
+  one_left : (frame : Annotation) (c : Change) (cs : List Change) (later : ℕ → List Annotation)
+      (left : Annotation → List ℕ) (v : List Bit) (o : Option Annotation)
+      → IfSome o (λ a. (frame.end ≤ c.tick) × (a.start ≡ c.tick))
       → AreChangesFrom c.tick v (c ∷ cs) → ((taken : ℕ) → list_any (amid c.tick) (later taken) ≡ false)
-      → ((a : Annotation) → left a ≡ count_by (λ (d : Change). list_any (amid d.tick) (a ∷ later a.end)) cs)
-      → (if amid c.tick (unwrap_or o frame) then 1 else 0) + left (unwrap_or o frame)
-      ≡ count_by (λ (d : Change). list_any (amid d.tick)
-      (frame ∷ option_to_list o ++ later (option_map_or (λ a. a.end) o frame.end))) (c ∷ cs)
+      → ((a : Annotation) → left a ≡ ticks_amid u (a ∷ later a.end) cs)
+      → if_amid (amid c.tick (unwrap_or o frame)) c ++ left (unwrap_or o frame)
+      ≡ ticks_amid u (frame ∷ option_to_list o ++ later (option_map_or (λ a. a.end) o frame.end)) (c ∷ cs)
   one_left frame c cs later left v None is rise none same =
-      counted frame c cs (later frame.end) (left frame) (none frame.end) (same frame)
+      noted frame c cs (later frame.end) (left frame) (none frame.end) (same frame)
   one_left frame c cs later left v (Some a) is rise none same =
-      counted a c cs (later a.end) (left a) (none a.end) (same a)
+      noted a c cs (later a.end) (left a) (none a.end) (same a)
       ∙ sym (frame_over frame (a ∷ later a.end) c.tick v (c ∷ cs) is.0 rise)
 
   -- they are those of the newest frame, and of the frames that begin later
   pub left_are : (frame : Annotation) (before : Bit) (floor : ℕ) (v : List Bit) (cs : List Change)
       → AreChangesFrom floor v cs → edges_left begun u frame before cs
-      ≡ count_by (λ (d : Change). list_any (amid d.tick)
-      (frame ∷ frames begun frame.end (fall_ticks before cs))) cs
+      ≡ ticks_amid u (frame ∷ frames begun frame.end (fall_ticks before cs)) cs
   unfolding edges_left
   left_are frame before floor v [] rise = refl
   left_are frame before floor v (c ∷ cs) (from, other, wide, rest) =
@@ -155,54 +163,67 @@ module _ (begun : ℕ → Option Annotation) (begins : (t : ℕ) → IfSome (beg
       (new_is (is_one before && is_zero (letter_of c)) frame.end c.tick) (omega arith, other, wide, rest)
       (λ taken. none_later c.tick (c.tick + 1) c.value (letter_of c) cs taken (omega arith) rest)
       (λ a. left_are a (letter_of c) (c.tick + 1) c.value cs rest)
-      ∙ ap (λ fs. count_by (λ (d : Change). list_any (amid d.tick) (frame ∷ fs)) (c ∷ cs))
+      ∙ ap (λ fs. ticks_amid u (frame ∷ fs) (c ∷ cs))
       (sym (one_change begun frame.end before c cs (new_frame begun frame.end before c) refl))
 
   -- at first there is no frame
   pub all_are : (frame : Annotation) (before : Bit) (v : List Bit) (cs : List Change) → frame.end ≡ 0
       → AreChangesFrom 0 v cs → edges_left begun u frame before cs
-      ≡ count_by (λ (d : Change). list_any (amid d.tick) (frames begun 0 (fall_ticks before cs))) cs
+      ≡ ticks_amid u (frames begun 0 (fall_ticks before cs)) cs
   all_are frame before v cs none rise =
       left_are frame before 0 v cs rise
       ∙ frame_over frame (frames begun frame.end (fall_ticks before cs)) 0 v cs (omega (arith, none)) rise
-      ∙ ap (λ taken. count_by (λ (d : Change). list_any (amid d.tick) (frames begun taken (fall_ticks before cs))) cs)
-      none
+      ∙ ap (λ taken. ticks_amid u (frames begun taken (fall_ticks before cs)) cs) none
 
 -- ---- the walk over the changes
 
--- a truth value as a number
-pub as_number : (b : Bool) (n : ℕ) → n ≡ bool_byte b → (n ≡ (if b then 1 else 0)) × (n ≤ 1)
-as_number true n is = (is, omega (arith, is))
-as_number false n is = (is, omega (arith, is))
+-- one more change is looked at
+module _ (begun : ℕ → Option Annotation) (u : UartSetup) (frame newest : Annotation) (before letter : Bit)
+    (changes : List Change) (i : ℕ) (c : Change) (o : Option Annotation) (found next : FoundTicks) (passes : Bool)
+    (all : List ℕ) (within : i < length changes) (at : c ≡ get_or changes i c) (is_letter : letter ≡ letter_of c)
+    (is_new : o ≡ (if is_one before && is_zero letter && nat_lt frame.end c.tick then begun c.tick else None))
+    (is_newest : newest ≡ unwrap_or o frame) (asked : passes ≡ is_amid_bit_of u c.tick newest)
+    (so_far : FoundSoFar found (edges_left begun u frame before (drop i changes)) all) where
+  left_is : edges_left begun u frame before (drop i changes)
+      ≡ (if passes then c.tick ∷ [] else []) ++ edges_left begun u newest letter (drop (i + 1) changes)
+  unfolding edges_left
+  left_is =
+      let rest : List Change = drop (i + 1) changes in
+      let list : drop i changes ≡ c ∷ rest = drop-cons changes i c within
+      ∙ (λ j. sym at j ∷ drop (sym (add-one i) j) changes) in
+      let newest_by : newest ≡ unwrap_or (new_frame begun frame.end before c) frame =
+      is_newest ∙ ap (λ (p : Option Annotation). unwrap_or p frame) (is_new
+      ∙ ap (λ l. if is_one before && is_zero l && nat_lt frame.end c.tick then begun c.tick else None) is_letter) in
+      ap (edges_left begun u frame before) list
+      ∙ (λ j. if_amid (is_amid_bit_of u c.tick (sym newest_by j)) c
+      ++ edges_left begun u (sym newest_by j) (sym is_letter j) rest)
+      ∙ ap (λ b. if_amid b c ++ edges_left begun u newest letter rest) (sym asked)
 
--- after one more change the edges counted and those to come are still all
-pub one_more : (begun : ℕ → Option Annotation) (u : UartSetup) (frame newest : Annotation) (before letter : Bit)
-    (changes : List Change) (i : ℕ) (c : Change) (o : Option Annotation) (count more all : ℕ)
-    → i < length changes → c ≡ get_or changes i c → letter ≡ letter_of c
-    → o ≡ (if is_one before && is_zero letter && nat_lt frame.end c.tick then begun c.tick else None)
-    → newest ≡ unwrap_or o frame → more ≡ (if is_amid_bit_of u c.tick newest then 1 else 0)
-    → count + edges_left begun u frame before (drop i changes) ≡ all
-    → count + more + edges_left begun u newest letter (drop (i + 1) changes) ≡ all
-unfolding edges_left
-one_more begun u frame newest before letter changes i c o count more all within at is_letter is_new is_newest is_more
-    so_far =
-    let rest = drop (i + 1) changes in
-    let list : drop i changes ≡ c ∷ rest = drop-cons changes i c within
-    ∙ (λ j. sym at j ∷ drop (sym (add-one i) j) changes) in
-    let newest_by : newest ≡ unwrap_or (new_frame begun frame.end before c) frame =
-    is_newest ∙ ap (λ (p : Option Annotation). unwrap_or p frame) (is_new
-    ∙ ap (λ l. if is_one before && is_zero l && nat_lt frame.end c.tick then begun c.tick else None) is_letter) in
-    let by_frame : more + edges_left begun u newest letter rest
-    ≡ edges_left begun u frame before (c ∷ rest) =
-    ap (λ m. m + edges_left begun u newest letter rest) is_more
-    ∙ (λ j. (if is_amid_bit_of u c.tick (newest_by j) then 1 else 0)
-    + edges_left begun u (newest_by j) (is_letter j) rest) in
-    omega (arith, by_frame, ap (edges_left begun u frame before) list, so_far)
+  pub one_fits : passes ≡ true → found.count + 1 < 2 ^ 64
+  one_fits = has_room found passes c.tick _ _ _ left_is so_far
 
--- at the end all edges are counted
-pub all_counted : (begun : ℕ → Option Annotation) (u : UartSetup) (frame : Annotation) (before : Bit)
-    (changes : List Change) (i count all : ℕ) → length changes ≤ i
-    → count + edges_left begun u frame before (drop i changes) ≡ all → count ≡ all
+  pub one_more : next ≡ (if passes then with_tick found c.tick else found)
+      → FoundSoFar next (edges_left begun u newest letter (drop (i + 1) changes)) all
+  one_more is = next_tick found next passes c.tick _ _ _ is left_is so_far
+
+-- at the end all are found
+pub all_noted : (begun : ℕ → Option Annotation) (u : UartSetup) (frame : Annotation) (before : Bit)
+    (changes : List Change) (i : ℕ) (found : FoundTicks) (all : List ℕ) → length changes ≤ i
+    → FoundSoFar found (edges_left begun u frame before (drop i changes)) all → found ≡ found_ticks all
 unfolding edges_left
-all_counted begun u frame before changes i count all end so_far =
-    omega (arith, ap (edges_left begun u frame before) (drop_all i changes end), so_far)
+all_noted begun u frame before changes i found all end so_far =
+    all_found found _ all (ap (edges_left begun u frame before) (drop_all i changes end)) so_far
+
+-- at most one for each change
+pub few_left : (begun : ℕ → Option Annotation) (u : UartSetup) (frame : Annotation) (before : Bit) (cs : List Change)
+    → length (edges_left begun u frame before cs) ≤ length cs
+unfolding edges_left
+few_left begun u frame before [] = omega arith
+few_left begun u frame before (c ∷ cs) =
+    let newest : Annotation = unwrap_or (new_frame begun frame.end before c) frame in
+    omega (
+      arith,
+      few_left begun u newest (letter_of c) cs,
+      length-append (if_amid (is_amid_bit_of u c.tick newest) c) (edges_left begun u newest (letter_of c) cs),
+      at_most_one (is_amid_bit_of u c.tick newest) c,
+    )

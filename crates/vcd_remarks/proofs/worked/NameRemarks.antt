@@ -34,8 +34,7 @@ one_alone : remarks_on_line (codes "changes top.tx") ≡ []
 unfolding command_of_line words_of lookup name_in name_remarks remarks
 one_alone = refl
 
-removed : remarks_on_line (codes "remove top.rx")
-    ≡ first_rx ++ codes "remove: signals from @1 on are one position earlier from here on" ∷ []
+removed : remarks_on_line (codes "remove top.rx") ≡ first_rx
 unfolding command_of_line words_of lookup name_in name_remarks remarks edit_fault digits
 removed = refl
 

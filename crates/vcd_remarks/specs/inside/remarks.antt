@@ -1,2 +1,3 @@
 -- Definitions that `remarks` and its proofs cite.
 pub mod Parts
+pub mod Deglitching

@@ -1,192 +1,102 @@
-//! The lengths of the runs of a clock: what runs of each level often have, and which are much
-//! shorter, such as spikes.
+//! The runs of a level of a clock that are much shorter than most, such as spikes.
 
-ghost use Rattle.std.specs.Prelude.{◌≡◌, ◌≤◌, ◌&&◌, nat_lt, length};
-ghost use Rattle.vcd_core.specs.CaptureContents.{contents};
-ghost use Rattle.vcd_core.specs.Contents.{signal_at};
+ghost use Rattle.std.specs.Prelude.{◌≡◌, ℕ, ◌+◌, ◌-◌, ◌/◌, ◌<◌, ◌≤◌, ◌^◌, [], nat_lt, length, List};
+ghost use Rattle.std.specs.Prelude.{true};
+ghost use Rattle.std.specs.Prelude.{if◌then◌else◌};
+ghost use Rattle.std.specs.List.{filter};
+ghost use Rattle.vcd_core.specs.Value.{letter_at, same_letter};
 ghost use Rattle.vcd_remarks.specs.ClockRuns as spec;
-ghost use Rattle.vcd_remarks.specs.ClockRuns.{ticks_of_level};
-ghost use Rattle.vcd_remarks.specs.ValueRuns.{run_begun, runs_begun};
-ghost use Rattle.vcd_remarks.specs.inside.remarks.Parts as inside;
+ghost use Rattle.vcd_remarks.specs.FoundTicks.{found_ticks};
+ghost use Rattle.vcd_remarks.specs.ValueRuns.{ValueRun, run_begun, runs_begun};
+ghost use Rattle.vcd_remarks.specs.inside.ClockRuns as inside;
+ghost use Rattle.vcd_remarks.specs.inside.FoundTicks.{with_tick};
 
-use crate::remarks::pulses::pulse_ticks;
-use crate::remarks::runs::{changes_at, letter_of};
-use vcd_core::{Bit, Capture, Change};
+use crate::findings::found_ticks::FoundTicks;
+use crate::remarks::runs::{letter_of, tick_before};
+use vcd_core::{Bit, Change};
 
-/// The runs of a clock.
-#[derive(Clone, Copy)]
-pub struct ClockRuns {
-    /// How many have less than half of the ticks that runs of their level often have.
-    pub brief: u64,
-    /// Half of the ticks that a run of each level often has together: half a period, also of a
-    /// clock whose pulses are narrow.
-    pub half_period: u64,
-}
+/// How many powers of two there are up to 2 ^ 64.
+const POWERS: usize = 65;
 
-/// The runs of a CLK of `spi` at a position. More than an eighth of its runs are no pauses.
+/// The short runs of a level, among those that changes begin.
 ///
-/// It goes over the changes ten times, and once more for each power of two between the shortest run
-/// of a level and what runs of that level often have.
-pub fn clk_runs_at(capture: &Capture, clk: usize) -> ClockRuns
-    ensures brief { result.brief ≡ spec.brief_runs 8 8 (contents capture.now).end
-        (signal_at (contents capture.now) clk) }
-    ensures half_period { result.half_period ≡ spec.half_period (contents capture.now).end
-        (signal_at (contents capture.now) clk) }
+/// It is one walk over the changes, with a step for each power of two.
+pub fn short_runs_in(changes: &[Change], end: u64, level: Bit) -> FoundTicks
+    ensures { result ≡ found_ticks
+        (spec.short_among (filter (spec.is_level_run level end) (runs_begun end changes.now))) }
 {
-    let changes = changes_at(capture, clk);
-    let end = capture.end();
-    let low = level_runs(changes, end, true, 8);
-    let high = level_runs(changes, end, false, 8);
-    ClockRuns {
-        brief: low.brief.saturating_add(high.brief),
-        half_period: low.usual_ticks.midpoint(high.usual_ticks),
-    }
-}
-
-/// How many runs of an SCL at a position have less than half of the ticks that runs of their level
-/// often have. A device may stretch up to a quarter of those in which it is low.
-pub fn brief_runs_of_scl(capture: &Capture, scl: usize) -> u64
-    ensures { result ≡ spec.brief_runs 4 8 (contents capture.now).end
-        (signal_at (contents capture.now) scl) }
-{
-    let changes = changes_at(capture, scl);
-    let end = capture.end();
-    let low = level_runs(changes, end, true, 4);
-    let high = level_runs(changes, end, false, 8);
-    low.brief.saturating_add(high.brief)
-}
-
-/// The runs of a level of a clock.
-#[derive(Clone, Copy)]
-struct LevelRuns {
-    /// How many ticks they often have.
-    usual_ticks: u64,
-    /// How many have less than half of these.
-    brief: u64,
-}
-
-/// The runs of a level, or of the other one. Those often have a number of ticks of which more than
-/// one, and more than one in `share`, have as many.
-fn level_runs(changes: &[Change], end: u64, is_low: bool, share: u64) -> LevelRuns
-    requires { 1 ≤ share }
-    ensures usual { result.usual_ticks
-        ≡ spec.usual_ticks share end (ticks_of_level is_low end (runs_begun end changes.now)) }
-    ensures brief { result.brief
-        ≡ spec.brief_count share end (ticks_of_level is_low end (runs_begun end changes.now)) }
-    ensures few { result.brief ≤ length changes.now }
-{
-    let all = count_from(changes, end, is_low, 0);
-    let usual_ticks = usual_ticks(changes, end, is_low, share, all);
-    LevelRuns {
-        usual_ticks,
-        brief: all.saturating_sub(count_from(changes, end, is_low, usual_ticks.div_ceil(2))),
-    }
-}
-
-/// How many ticks the runs of a level often have, of which there are `all`: those of the shortest,
-/// doubled as often as may be, and perhaps half as many again.
-fn usual_ticks(changes: &[Change], end: u64, is_low: bool, share: u64, all: u64) -> u64
-    requires share { 1 ≤ share }
-    requires all { all ≡ length (ticks_of_level is_low end (runs_begun end changes.now)) }
-    ensures { result
-        ≡ spec.usual_ticks share end (ticks_of_level is_low end (runs_begun end changes.now)) }
-{
-    let few = (all / share).max(1);
-    let ticks = doubled_ticks(changes, end, is_low, few);
-    let more = ticks.saturating_add(ticks / 2);
-    if is_often_reached(changes, end, is_low, few, more) {
-        return more;
-    }
-    ticks
-}
-
-/// How many ticks the shortest run of a level has, doubled as long as more than `few` runs have as
-/// many.
-fn doubled_ticks(changes: &[Change], end: u64, is_low: bool, few: u64) -> u64
-    ensures { result ≡ spec.doubled 64 few end
-        (spec.least (ticks_of_level is_low end (runs_begun end changes.now)))
-        (ticks_of_level is_low end (runs_begun end changes.now)) }
-{
-    let mut ticks = shortest_run(changes, end, is_low);
-    for _ in 0..u64::BITS {
-        let double = ticks.saturating_add(ticks);
-        if !is_often_reached(changes, end, is_low, few, double) {
-            return ticks;
-        }
-        ticks = double;
-    }
-    ticks
-}
-
-/// Whether more than `few` runs of a level have at least these ticks, which are fewer than those of
-/// the capture.
-fn is_often_reached(changes: &[Change], end: u64, is_low: bool, few: u64, ticks: u64) -> bool
-    ensures { result ≡ (nat_lt ticks end && nat_lt few
-        (spec.count_from ticks (ticks_of_level is_low end (runs_begun end changes.now)))) }
-{
-    if ticks >= end {
-        return false;
-    }
-    count_from(changes, end, is_low, ticks) > few
-}
-
-/// How many runs of a level have at least these ticks, and contain neither tick 0 nor the end.
-fn count_from(changes: &[Change], end: u64, is_low: bool, ticks: u64) -> u64
-    ensures count { result
-        ≡ spec.count_from ticks (ticks_of_level is_low end (runs_begun end changes.now)) }
-    ensures few { result ≤ length changes.now }
-{
-    let mut count = 0;
+    let mut below = [FoundTicks::none(); POWERS];
     for i in 0..changes.len() {
-        let found = level_ticks(&changes[i], &changes[i + 1..], end, is_low);
-        count += u64::from(reaches(found, ticks));
+        let change = &changes[i];
+        let ticks = level_ticks(change, &changes[i + 1..], end, level);
+        note_run(&mut below, ticks, change.tick);
     }
-    count
+    short_below(&below)
 }
 
-/// How many ticks the shortest run of a level has that contains neither tick 0 nor the end; 0 if
-/// there is none.
-fn shortest_run(changes: &[Change], end: u64, is_low: bool) -> u64
-    ensures { result ≡ spec.least (ticks_of_level is_low end (runs_begun end changes.now)) }
+/// Notes a run of so many ticks, if there is one, under each power of two that is greater.
+fn note_run(below: &mut [FoundTicks], ticks: Option<u64>, tick: u64)
+    requires few { length below.old ≤ POWERS }
+    requires room { (k : ℕ) → k < length below.old
+        → inside.is_below ticks k ≡ true → (inside.at_power below.old k).count + 1 < 2 ^ 64 }
+    ensures length { length below.new ≡ length below.old }
+    ensures each { (k : ℕ) → k < length below.old → inside.at_power below.new k
+        ≡ (if inside.is_below ticks k then with_tick (inside.at_power below.old k) tick
+        else inside.at_power below.old k) }
 {
-    let mut shortest = 0;
-    for i in 0..changes.len() {
-        let found = level_ticks(&changes[i], &changes[i + 1..], end, is_low);
-        shortest = lesser(shortest, found.unwrap_or(0));
+    for power in 0..below.len() {
+        below[power] = below[power].with_tick_if(is_below(ticks, power), tick);
     }
-    shortest
 }
 
-/// How many ticks the run has that a change begins, if it is of a level and contains neither tick 0
-/// nor the end.
-fn level_ticks(change: &Change, later: &[Change], end: u64, is_low: bool) -> Option<u64>
-    ensures { result ≡ inside.level_ticks is_low end (run_begun end change.now later.now) }
+/// Whether there is a run, and it has fewer ticks than this power of two.
+fn is_below(ticks: Option<u64>, power: usize) -> bool
+    requires { power < POWERS }
+    ensures { result ≡ inside.is_below ticks power }
 {
-    if (letter_of(change) == Bit::Zero) != is_low {
-        return None;
-    }
-    pulse_ticks(change, later, end, end)
-}
-
-/// Whether there is such a run, and it has at least these ticks.
-fn reaches(found: Option<u64>, ticks: u64) -> bool
-    ensures { result ≡ inside.reaches ticks found }
-{
-    match found {
-        Some(run) => run >= ticks,
+    match ticks {
+        Some(ticks) => u128::from(ticks) < 1_u128 << power,
         None => false,
     }
 }
 
-/// The lesser of two numbers above 0; the other one if one is 0.
-fn lesser(first: u64, second: u64) -> u64
-    ensures { result ≡ spec.lesser first second }
+/// How many ticks the run has that a change begins, if it is of a level and contains neither tick 0
+/// nor the end.
+fn level_ticks(change: &Change, later: &[Change], end: u64, level: Bit) -> Option<u64>
+    ensures { result ≡ inside.level_ticks level end (run_begun end change.now later.now) }
 {
-    if first == 0 {
-        return second;
+    let last = tick_before(later, end);
+    if change.tick == 0 || last >= end || letter_of(change) != level {
+        return None;
     }
-    if second == 0 {
-        return first;
+    Some(last.saturating_sub(change.tick) + 1)
+}
+
+/// The short runs, given those that are below each power of two.
+fn short_below(below: &[FoundTicks]) -> FoundTicks
+    requires all { length below.now ≡ POWERS }
+    ensures { (rs : List ValueRun) → ((k : ℕ) → k < POWERS
+        → inside.at_power below.now k ≡ found_ticks (inside.below k rs))
+        → length rs ≡ (inside.at_power below.now 64).count
+        → result ≡ found_ticks (spec.short_among rs) }
+{
+    let count = often_reached(below);
+    if count < 2 {
+        return FoundTicks::none();
     }
-    first.min(second)
+    below[count - 2]
+}
+
+/// How many powers of two more than one in four of these runs have.
+fn often_reached(below: &[FoundTicks]) -> usize
+    requires all { length below.now ≡ POWERS }
+    ensures count { result ≡ spec.count_below (inside.is_often_reached below.now) 64 }
+    ensures few { result ≤ 64 }
+{
+    let all = below[POWERS - 1].count;
+    let mut count = 0;
+    for power in 0..POWERS - 1 {
+        count += usize::from(all.saturating_sub(below[power].count) > all / 4);
+    }
+    count
 }

@@ -14,7 +14,7 @@ ghost use Rattle.vcd_script.specs.inside.running.Run.{ScriptGives};
 
 use crate::running::run_lines::run_lines;
 use crate::running::script_input::{SCRIPT_LIMIT, read_script};
-use crate::running::{RunError, Summary};
+use crate::running::{RunError, Summary, Unobserved};
 use std::alloc::Global;
 use vcd_core::{Capture, Sink, Source};
 use vcd_journal::{DEPTH_LIMIT, Session};
@@ -101,6 +101,7 @@ fn run_script<R: Source, S: Source, P: Sink>(
         loaded.skipped,
         script.as_slice(),
         replies,
+        &mut Unobserved,
     )?;
     Ok((session, refused))
 }

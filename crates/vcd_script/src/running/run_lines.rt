@@ -1,14 +1,16 @@
 //! The lines of a script, run one after another.
 
-ghost use Rattle.std.specs.Prelude.{◌≡◌, ◌≤◌, ◌<◌, ◌^◌, ℕ, false, true, length, IfOk, IfErr, OnOk};
+ghost use Rattle.std.specs.Prelude.{◌≡◌, ◌≤◌, ◌<◌, ◌^◌, ℕ, false, true, length, take, IfOk, IfErr};
+ghost use Rattle.std.specs.Prelude.{OnOk};
 ghost use Rattle.std.specs.Io.KnownBytes.{Appends, Keeps};
 ghost use Rattle.vcd_script.specs.Script.{script_lines};
 ghost use Rattle.vcd_script.specs.LineRunEnds.{HasFailedAt, RunsLines, EndsAtLine, StopsInLines};
+ghost use Rattle.vcd_script.specs.ObservedLines.{SeesLines};
 ghost use Rattle.vcd_script.specs.SessionLines.{AnswersLine};
 ghost use Rattle.vcd_script.specs.inside.running.RunLines.{StopsAtReply, StopsAtLine};
 
 use crate::replies::{Reply, answer_line};
-use crate::running::RunError;
+use crate::running::{LineObserver, RunError};
 use crate::script::split_line;
 use std::alloc::Global;
 use vcd_core::{Sink, write_all};
@@ -16,16 +18,18 @@ use vcd_journal::Session;
 
 /// Runs the lines of a script, in order, each on the current capture. The reply to a line is
 /// written before the next line is read. Then the replies are flushed. Returns how many lines were
-/// refused. `skipped` is how many variables of the file were left out.
+/// refused. `skipped` is how many variables of the file were left out. The observer is shown each
+/// line first.
 ///
 /// The first error ends it: memory is refused at a line, after which the replies are flushed too,
 /// or the writer of the replies fails. It holds the reply of one line at a time.
-pub fn run_lines<P: Sink>(
+pub fn run_lines<P: Sink, O: LineObserver>(
     alloc: Global,
     session: &mut Session,
     skipped: u64,
     script: &[u8],
     replies: &mut P,
+    observer: &mut O,
 ) -> Result<u64, RunError>
     requires ready { P.has_failed replies.old ≡ false }
     requires short { length script.now < 2 ^ 60 }
@@ -39,6 +43,9 @@ pub fn run_lines<P: Sink>(
         (P.is_flushed replies.new)) }
     ensures stopped { IfErr result (StopsInLines skipped (script_lines script.now) session.old
         (P.taken replies.old) (P.taken replies.new)) }
+    // whatever the result
+    ensures observed { (count : ℕ) × SeesLines O.sees 1 session.old
+        (take count (script_lines script.now)) observer.old observer.new }
 {
     let mut rest = script;
     let mut number = 0u64;
@@ -46,6 +53,7 @@ pub fn run_lines<P: Sink>(
     let mut written = 0u128;
     while let Some((line, following)) = split_line(rest) {
         number += 1;
+        observer.observe(session.capture(), number, line);
         let reply = run_line(alloc, session, skipped, number, line, replies, written)?;
         refused += u64::from(reply.is_refused);
         written += reply.text.len() as u128;

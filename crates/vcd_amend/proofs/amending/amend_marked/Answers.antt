@@ -10,30 +10,33 @@ use Rattle.vcd_text.specs.Grammar.{initial_state}
 use Rattle.vcd_copy.specs.Pieces.{Piece}
 use Rattle.vcd_amend.specs.Amendment.{Amendment}
 use Rattle.vcd_amend.specs.AmendedText.{amended_text}
-use Rattle.vcd_amend.specs.AmendedCopy.{IsAmended, amendment_rules}
+use Rattle.vcd_amend.specs.AmendedCopy.{amendment_rules}
 use Rattle.vcd_amend.specs.AmendmentContents.{amendment_contents}
 use Rattle.vcd_amend.specs.RetimedCopy.{IsAmendedAfterCuts, retimed_rules, is_cut_by}
 use Rattle.vcd_amend.specs.declared.amendment.Amendment.{Amendment as HeldAmendment}
 use Rattle.vcd_amend.specs.declared.cut_ticks.CutTicks.{CutTicks}
-use Rattle.vcd_amend.proofs.amending.AnyLimit.{copy_is_amended}
+use Rattle.vcd_amend.proofs.amending.AnyLimit.{text_at}
+use Rattle.vcd_amend.proofs.amended.CopiedText.{copy_is_amended_text}
 use Rattle.vcd_amend.proofs.amending.CutTexts.{copy_is_amended_after_cuts}
 use Rattle.vcd_amend.proofs.amending.MarkedTexts.{marked_copy, amendment_marks, retimed_marks}
 use Rattle.vcd_amend.proofs.retimed.NoCut.{pieces_stay}
 use Rattle.vcd_amend.proofs.amending.amend_marked.Goals as goal
 
-without_cuts : (limit : ℕ) (cuts : List CutTicks) (a : Amendment) (file text : List ℕ) → length cuts ≡ 0
-    → IsAmended limit a file text → IsAmendedAfterCuts limit (is_cut_by cuts) a file text
+amended_without_cuts : (limit : ℕ) (cuts : List CutTicks) (a : Amendment) (file text : List ℕ) → length cuts ≡ 0
+    → IsCopy limit (amendment_rules a 0) file text → IsAmendedAfterCuts limit (is_cut_by cuts) a file text
 unfolding is_cut_by
-without_cuts limit [] a file text none is = record {
-  pieces = is.pieces;
-  tail = is.tail;
-  cut = is.cut;
-  allowed = is.allowed;
-  in_body = is.in_body;
-  is = is.is ∙ ap (λ (ps : List Piece). amended_text a true (initial_state limit) ps is.tail)
-      (sym (pieces_stay (initial_state limit) is.pieces));
+amended_without_cuts limit [] a file text none copy = record {
+  pieces = copy.pieces;
+  tail = copy.tail;
+  cut = copy.cut;
+  allowed = copy.allowed;
+  in_body = copy.in_body;
+  is = copy.is ∙ copy_is_amended_text a 0 copy.pieces copy.tail
+      ∙ sym (text_at a true limit (initial_state 0) copy.pieces copy.tail)
+      ∙ ap (λ (ps : List Piece). amended_text a true (initial_state limit) ps copy.tail)
+      (sym (pieces_stay (initial_state limit) copy.pieces));
 }
-without_cuts limit (cut ∷ cuts) a file text none is = absurd (cc)
+amended_without_cuts limit (cut ∷ cuts) a file text none copy = absurd (cc)
 
 pub returns-then-is_empty-clause-amended : goal.returns-then-is_empty-clause-amended
 returns-then-is_empty-clause-amended g c = on_ok_weaker c.copy.result
@@ -47,9 +50,8 @@ returns-then-is_empty-clause-amended g c = on_ok_weaker c.copy.result
       made.0,
       made.1,
       text,
-      without_cuts c.args.limit c.args.cuts.now a made.0 text
-          (grind (arith, c.if-is_empty.true, c.is_empty.ensures, nat_tests))
-          (copy_is_amended c.args.limit a made.0 text made.2),
+      amended_without_cuts c.args.limit c.args.cuts.now a made.0 text
+          (grind (arith, c.if-is_empty.true, c.is_empty.ensures, nat_tests)) made.2,
       appends,
     ))) c.copy.ensures.copied
 

@@ -7,11 +7,11 @@ use Rattle.vcd_amend.specs.Amendment.{Amendment, amended_variables}
 use Rattle.vcd_amend.specs.AmendmentContents.{amendment_contents, added_contents}
 use Rattle.vcd_amend.specs.DeclaredVariables.{declarations_of}
 use Rattle.vcd_amend_run.specs.OutputRemarks.{apart_remark, left_apart, is_removed_apart, removed_apart}
-use Rattle.vcd_amend_run.specs.OutputRemarks.{is_removed_by, removed_remark, removed_variables, traces_remark}
+use Rattle.vcd_amend_run.specs.OutputRemarks.{removed_remark}
 use Rattle.vcd_amend_run.specs.declared.remarks.fated_variables.FatedVariable.{FatedVariable}
 use Rattle.vcd_amend_run.specs.inside.OutputRemarks.{HaveCodesOf, VariableFate, fate_in_memory, variable_fates}
 use Rattle.vcd_amend_run.specs.inside.OutputRemarks.{is_fated_apart, variables_by_fate, variables_in_place}
-use Rattle.vcd_amend_run.proofs.remarks.Fates.{left_apart_are, removed_apart_are, removed_are, in_place_are}
+use Rattle.vcd_amend_run.proofs.remarks.Fates.{left_apart_are, removed_apart_are, in_place_are}
 use Rattle.vcd_amend_run.proofs.remarks.append_code_remarks.Goals as goal
 
 pub returns : goal.returns
@@ -22,8 +22,8 @@ returns c =
     let fates : (fated : List FatedVariable) → fated ≡ c.in_ok-fated.fated.items
     → map fate_in_memory fated ≡ variable_fates a ds =
     λ fated is. ap (map fate_in_memory) is ∙ c.in_ok-fated.ensures in
-    let differing : c.as_slice-6.result.now ≡ map declared_name (left_apart a ds) =
-    c.as_slice-6.ensures.value ∙ c.in_ok-differing.ensures
+    let differing : c.as_slice-5.result.now ≡ map declared_name (left_apart a ds) =
+    c.as_slice-5.ensures.value ∙ c.in_ok-differing.ensures
     ∙ ap (λ (vs : List VariableFate). map declared_name (variables_by_fate (is_fated_apart vs) vs))
     (fates c.as_slice.result.now c.as_slice.ensures.value)
     ∙ ap (map declared_name) (left_apart_are a ds) in
@@ -34,19 +34,13 @@ returns c =
     ∙ ap (λ l. l ++ a.added) (in_place_are a ds) in
     let used : HaveCodesOf c.in_ok-used.used (amended_variables a ds) =
     subst (HaveCodesOf c.in_ok-used.used) left c.in_ok-used.ensures in
-    let apart : c.as_slice-7.result.now ≡ map declared_name (removed_apart a ds) =
-    c.as_slice-7.ensures.value ∙ c.in_ok-apart.ensures (amended_variables a ds) used
+    let apart : c.as_slice-6.result.now ≡ map declared_name (removed_apart a ds) =
+    c.as_slice-6.ensures.value ∙ c.in_ok-apart.ensures (amended_variables a ds) used
     ∙ ap (λ (vs : List VariableFate). map declared_name
     (variables_by_fate (is_removed_apart (amended_variables a ds)) vs))
     (fates c.as_slice-4.result.now c.as_slice-4.ensures.value)
     ∙ ap (map declared_name) (removed_apart_are a ds) in
-    let removed : c.as_slice-8.result.now ≡ map declared_name (removed_variables a ds) =
-    c.as_slice-8.ensures.value ∙ c.in_ok-removed.ensures
-    ∙ ap (λ (vs : List VariableFate). map declared_name (variables_by_fate is_removed_by vs))
-    (fates c.as_slice-5.result.now c.as_slice-5.ensures.value)
-    ∙ ap (map declared_name) (removed_are a ds) in
-    on_ok_weaker c.append_traces_remark.result
-    (λ is. is ∙ ap (λ l. l ++ traces_remark c.as_slice-8.result.now) (c.in_ok-append_removed_remark.ensures
-    ∙ ap (λ l. l ++ removed_remark c.as_slice-7.result.now) c.in_ok-append_apart_remark.ensures)
-    ∙ (λ i. ((old ++ apart_remark (differing i)) ++ removed_remark (apart i)) ++ traces_remark (removed i)))
-    c.append_traces_remark.ensures
+    on_ok_weaker c.append_removed_remark.result
+    (λ is. is ∙ ap (λ l. l ++ removed_remark c.as_slice-6.result.now) c.in_ok-append_apart_remark.ensures
+    ∙ (λ i. (old ++ apart_remark (differing i)) ++ removed_remark (apart i)))
+    c.append_removed_remark.ensures

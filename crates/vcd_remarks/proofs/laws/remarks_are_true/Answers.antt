@@ -1,8 +1,6 @@
 use Rattle.vcd_remarks.proofs.remarks.AllRuns.{value_runs_are_all}
 use Rattle.vcd_remarks.proofs.remarks.PulsesTakenOut.{pulses_are_taken_out}
 use Rattle.vcd_remarks.proofs.remarks.DelaysAtTicks.{delays_are_all}
-use Rattle.vcd_remarks.proofs.remarks.NoFrame.{no_fall_no_frame}
-use Rattle.vcd_remarks.proofs.remarks.IdleLines.{falls_after_frame}
 use Rattle.vcd_remarks.proofs.laws.remarks_are_true.Goals as goal
 
 pub returns-clause-runs : goal.returns-clause-runs
@@ -17,9 +15,3 @@ pub returns-clause-edges : goal.returns-clause-edges
 returns-clause-edges c =
     delays_are_all (pulses_are_taken_out c.deglitch_takes_short_runs_out.ensures.long_stay
     c.deglitch_takes_short_runs_out.ensures.short_filled)
-
-pub returns-clause-frames : goal.returns-clause-frames
-returns-clause-frames c = no_fall_no_frame
-
-pub returns-clause-idle : goal.returns-clause-idle
-returns-clause-idle c = falls_after_frame

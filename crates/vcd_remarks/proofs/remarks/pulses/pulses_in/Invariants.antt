@@ -1,7 +1,7 @@
 -- The pulses found and those among the runs left are all.
 use Rattle.std.proofs.Common.{◌≡◌, ◌≤◌, ◌+◌, max, length, map, drop}
 use Rattle.std.specs.List.{filter}
-use Rattle.vcd_remarks.specs.Remarks.{greatest}
+use Rattle.vcd_remarks.specs.FoundTicks.{greatest}
 use Rattle.vcd_remarks.specs.ValueRuns.{is_pulse, runs_begun, ticks_of_run}
 use Rattle.vcd_remarks.proofs.remarks.pulses.pulses_in.Given as goal
 

@@ -1,0 +1,104 @@
+-- The options of the command line, and what its words ask for. They are the project's own.
+use Rattle.std.specs.Prelude.{ℕ, Bool, List, codes, true, false, bytes_eq, Option, Some, None}
+use Rattle.std.specs.Prelude.{◌||◌, is_some}
+use Rattle.std.specs.Option.{option_copied}
+use Rattle.clap.specs.Words.{App, Rule, Text, all_of, first_of, matches_of, new_app, new_rule}
+use Rattle.clap.specs.Words.{one_of}
+use Rattle.clap.specs.Words.{with_rule}
+use Rattle.clap.specs.Simple.{new_shape}
+use Rattle.clap.specs.declared.builder.action.ArgAction.TheVariants.{SetTrue, Append}
+use Rattle.vcd_shell.specs.Options.{depth_asked, depth_option, input_option}
+use Rattle.vcd_shell.specs.Options.{output_option, value_option}
+use Rattle.vcd_part.specs.Requests.{texts}
+use Rattle.vcd_amend_program.specs.declared.command_line.Options.{Options}
+
+-- `--NAME`, without a value
+abbrev pub flag : Text → Rule
+flag name = record (new_rule name) { long = Some name; action = Some SetTrue }
+
+-- `CAPTURE`, without an option
+abbrev pub capture_argument : Rule
+capture_argument = record (new_rule (codes "capture")) { value_names = 1 }
+
+-- with the options
+abbrev pub with_options : App → App
+with_options app = with_rule (with_rule (with_rule (with_rule (with_rule (with_rule (with_rule
+    (with_rule app input_option) (value_option (codes "script"))) output_option)
+    (flag (codes "all-or-nothing"))) (flag (codes "mark"))) depth_option) (flag (codes "quiet")))
+    capture_argument
+
+-- `--NAME VALUE`, any number of times
+abbrev pub list_option : Text → Rule
+list_option name = record (value_option name) { action = Some Append }
+
+-- with the options that say which part is meant
+abbrev pub with_part : App → App
+with_part app = with_rule (with_rule (with_rule (with_rule app (list_option (codes "keep")))
+    (list_option (codes "remove"))) (value_option (codes "from"))) (value_option (codes "to"))
+
+-- whether an option without a value is given, by the text that it then has
+abbrev pub is_given : Option Text → Bool
+is_given None = false
+is_given (Some text) = bytes_eq text (codes "true")
+
+-- the program with these options, help and a version; its words do not begin with its name
+abbrev pub option_app : App
+option_app = with_part (with_options (record (new_app (codes "vcdedit-amend")) {
+  top = record (new_shape (codes "vcdedit-amend")) { no_binary_name = true; has_version = true };
+}))
+
+-- the text of each given option, the depth, whether the output is to have a mark, whether remarks
+-- are to be left out, and whether nothing is to be written if a line is refused
+pub record AskedOptions : Type 0 where
+  pub input : Option Text
+  pub capture : Option Text
+  pub script : Option Text
+  pub output : Option Text
+  pub depth : ℕ
+  pub is_marked : Bool
+  pub is_quiet : Bool
+  pub is_all_or_nothing : Bool
+  pub keep : Option (List Text)
+  pub remove : Option (List Text)
+  pub from : Option Text
+  pub to : Option Text
+
+-- the same for the options that the code holds
+abbrev pub options_in : Options → AskedOptions
+options_in o = record {
+  input = option_copied o.input;
+  capture = option_copied o.capture;
+  script = option_copied o.script;
+  output = option_copied o.output;
+  depth = o.depth;
+  is_marked = o.is_marked;
+  is_quiet = o.is_quiet;
+  is_all_or_nothing = o.is_all_or_nothing;
+  keep = texts o.keep;
+  remove = texts o.remove;
+  from = option_copied o.from;
+  to = option_copied o.to;
+}
+
+-- whether a part of the capture is asked for
+abbrev pub ask_for_part : AskedOptions → Bool
+ask_for_part o = is_some o.keep || (is_some o.remove || (is_some o.from || is_some o.to))
+
+-- what accepted words after the program's name ask for
+abbrev pub asked_options : List Text → AskedOptions
+asked_options words =
+    let rows = matches_of option_app words in
+    record {
+      input = first_of (codes "input-file") rows;
+      capture = first_of (codes "capture") rows;
+      script = first_of (codes "script") rows;
+      output = first_of (codes "output-file") rows;
+      depth = depth_asked (one_of (codes "depth") rows);
+      is_marked = is_given (first_of (codes "mark") rows);
+      is_quiet = is_given (first_of (codes "quiet") rows);
+      is_all_or_nothing = is_given (first_of (codes "all-or-nothing") rows);
+      keep = all_of (codes "keep") rows;
+      remove = all_of (codes "remove") rows;
+      from = first_of (codes "from") rows;
+      to = first_of (codes "to") rows;
+    }

@@ -1,0 +1,94 @@
+//! What a mark says of the capture: its name, its size and its SHA-256.
+
+ghost use Rattle.std.specs.Prelude.{◌≡◌, ◌⊎◌, false, ℕ, List, string_bytes};
+ghost use Rattle.std.specs.Prelude.{IfOk, IfErr, IfSome};
+ghost use Rattle.hex.specs.Hex.{encode_lower};
+ghost use Rattle.sha2.specs.Sha256.{sha256};
+ghost use Rattle.vcd_amend_program.specs.ProgramEnds.{not_read, no_memory};
+ghost use Rattle.vcd_amend_program.specs.Marks as spec;
+
+use crate::amend_error::{AmendError, NO_MEMORY, NOT_READ};
+use crate::command_line::VERSION;
+use sha2::{Digest, Sha256};
+use std::alloc::Global;
+use std::rt::Runtime;
+use vcd_copy::MarkHead;
+use vcd_core::Source;
+use vcd_devices::open_named;
+use vcd_replace::SeenFile;
+
+/// How many bytes of a capture are read at once.
+const CHUNK: usize = 65_536;
+
+/// The size of a capture, and its SHA-256 in hexadecimal digits.
+#[derive(Drop)]
+pub struct CaptureDigest {
+    pub size: u64,
+    pub digest: String,
+}
+
+/// Reads a capture once, before all passes over it.
+pub fn digest_of<R: Runtime + AllocGlobal>(
+    rt: &R,
+    capture: SeenFile<'_>,
+) -> Result<CaptureDigest, AmendError>
+    ensures { IfErr result (λ e. (e ≡ not_read) ⊎ (e ≡ no_memory)) }
+{
+    let path = capture.path();
+    let mut source = open_named(rt, path).map_err(|_| NOT_READ)?;
+    read_digest(rt.alloc(), &mut source)
+}
+
+/// The size and the SHA-256 of what a source gives. A `u64` counts bytes up to its limit.
+fn read_digest<S: Source>(alloc: Global, source: &mut S) -> Result<CaptureDigest, AmendError>
+    requires { S.has_failed source.old ≡ false }
+    ensures read { IfOk result (λ d. IfSome (S.coming source.old) (spec.IsDigestOf d)) }
+    ensures fault { IfErr result (λ e. (e ≡ not_read) ⊎ (e ≡ no_memory)) }
+{
+    let mut buffer = [0; CHUNK];
+    let mut hasher = Sha256::new();
+    let mut size = 0u64;
+    for _ in 0..u64::MAX {
+        let count = source.read(&mut buffer).map_err(|_| NOT_READ)?;
+        if count == 0 {
+            return ended(alloc, hasher, size);
+        }
+        hasher.update(&buffer[..count]);
+        size = size.saturating_add(count as u64);
+    }
+    Err(NOT_READ)
+}
+
+/// The digest of the bytes that were read.
+fn ended(alloc: Global, hasher: Sha256, size: u64) -> Result<CaptureDigest, AmendError>
+    ensures read { IfOk result (λ d. (file : List ℕ) → ⟦<Sha256 as Digest>⟧.holds hasher file →
+        (d.size ≡ size) × (string_bytes d.digest ≡ encode_lower (sha256 file))) }
+    ensures fault { IfErr result (λ e. e ≡ no_memory) }
+{
+    match hex::encode(alloc, hasher.finalize()) {
+        Ok(digest) => Ok(CaptureDigest { size, digest }),
+        Err(_) => Err(NO_MEMORY),
+    }
+}
+
+/// The head of the mark for a capture of this size and this SHA-256.
+pub fn head_of<'a>(path: &'a str, size: u64, digest: &'a str) -> MarkHead<'a>
+    ensures version { result.version.now ≡ VERSION.now }
+    ensures size { result.size ≡ size }
+    ensures digest { result.digest.now ≡ digest.now }
+{
+    MarkHead {
+        version: VERSION.as_bytes(),
+        name: file_name(path).as_bytes(),
+        size,
+        digest: digest.as_bytes(),
+    }
+}
+
+/// The last part of a path.
+fn file_name(path: &str) -> &str {
+    match path.rsplit_once('/') {
+        Some((_, name)) => name,
+        None => path,
+    }
+}

@@ -1,0 +1,23 @@
+//! What `vcdedit-amend` does for the words of its command line, up to its exit status.
+//!
+//! [`VcdeditAmend`] opens files for `amend_run` of `vcd_amend_run`, or for `write_part` of
+//! `vcd_part`, puts the output in its place, and says how such words may end. Its devices are those
+//! of `vcd_devices`.
+#![tactic(auto)]
+
+mod amend_error;
+mod capture_mark;
+mod command_line;
+mod inputs;
+mod job;
+mod near;
+mod part;
+mod part_remarks;
+mod part_words;
+mod passes;
+mod program;
+mod reporting;
+
+pub use amend_error::{AmendError, PartFault};
+pub use program::VcdeditAmend;
+pub use reporting::report;

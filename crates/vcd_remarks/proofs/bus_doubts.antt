@@ -1,2 +1,0 @@
--- Lemmas of `bus_doubts`.
-pub mod DoubtsOfEvents

@@ -1,0 +1,2 @@
+-- Lemmas of `bus_findings`.
+pub mod EventsWalked

@@ -1,0 +1,2 @@
+-- Lemmas about findings.
+pub mod TicksInTurn

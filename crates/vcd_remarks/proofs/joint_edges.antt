@@ -1,2 +1,0 @@
--- Lemmas of `joint_edges`.
-pub mod JointTicks

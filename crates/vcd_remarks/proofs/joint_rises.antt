@@ -1,0 +1,2 @@
+-- Lemmas of `joint_rises`.
+pub mod JointEdges

@@ -1,0 +1,3 @@
+-- Lemmas of `line_remarks`.
+pub mod RemarksOfLine
+pub mod WrittenRemarks

@@ -1,0 +1,2 @@
+-- Lemmas of `lost_lines`.
+pub mod LostEdges

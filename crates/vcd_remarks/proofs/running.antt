@@ -1,3 +1,0 @@
--- Lemmas of `running`.
-pub mod RemarksLeft
-pub mod LineRemarks

@@ -1,0 +1,2 @@
+-- Lemmas of `spi_line`.
+pub mod LineEdges

@@ -1,2 +1,0 @@
--- Lemmas of `spi_samples`.
-pub mod EdgeTests

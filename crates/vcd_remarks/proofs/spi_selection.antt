@@ -1,0 +1,2 @@
+-- Lemmas of `spi_selection`.
+pub mod SelectionEdges

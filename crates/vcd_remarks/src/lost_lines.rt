@@ -1,0 +1,56 @@
+//! Where a line of a decoder is lost.
+
+ghost use Rattle.std.specs.Prelude.{◌≡◌};
+ghost use Rattle.vcd_core.specs.Wave.{AllUpTo};
+ghost use Rattle.vcd_decode.specs.WaveLines.{line_of};
+ghost use Rattle.vcd_remarks.specs.FoundTicks.{found_ticks, ticks_where};
+ghost use Rattle.vcd_remarks.specs.LostLines as spec;
+ghost use Rattle.vcd_remarks.specs.inside.LostLines as inside;
+
+use crate::findings::found_ticks::FoundTicks;
+use vcd_core::{Bit, BitEdge, BitEdges, Wave};
+
+/// The ticks, up to `end`, from which on a line is neither 0 nor 1, but was just before. With
+/// `z_is_one` z stands for 1, as on the lines of an I2C bus.
+///
+/// It is one walk over the changes, and takes no memory.
+pub fn lost_ticks<'a>(wave: &'a Wave, end: u64, z_is_one: bool) -> FoundTicks
+    requires one_bit { wave.now.width ≡ 1 }
+    requires ended { AllUpTo end wave.now.changes }
+    ensures { result
+        ≡ found_ticks (ticks_where (spec.becomes_lost z_is_one (line_of wave.now)) end) }
+{
+    let mut found = FoundTicks::none();
+    for edge in BitEdges::new(Some(wave), None, None, None) {
+        found = found.with_tick_if(loses_line(z_is_one, &edge), edge.tick);
+    }
+    found
+}
+
+/// Whether the line is lost from an edge on.
+fn loses_line(z_is_one: bool, edge: &BitEdge) -> bool
+    ensures { result ≡ inside.loses_line z_is_one edge.now }
+{
+    become_lost(z_is_one, edge.before[0], edge.at[0])
+}
+
+/// Whether a bit is lost, and was not just before.
+pub fn become_lost(z_is_one: bool, before: Option<Bit>, at: Option<Bit>) -> bool
+    ensures { result ≡ inside.become_lost z_is_one before at }
+{
+    match (before, at) {
+        (Some(before), Some(at)) => !is_lost(z_is_one, before) & is_lost(z_is_one, at),
+        _ => false,
+    }
+}
+
+/// Whether a letter is neither 0 nor 1.
+fn is_lost(z_is_one: bool, letter: Bit) -> bool
+    ensures { result ≡ spec.is_lost z_is_one letter }
+{
+    match letter {
+        Bit::X => true,
+        Bit::Z => !z_is_one,
+        Bit::Zero | Bit::One => false,
+    }
+}

@@ -1,0 +1,2 @@
+-- Worked cases of the folders of an output.
+pub mod Names

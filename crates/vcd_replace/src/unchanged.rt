@@ -1,0 +1,60 @@
+//! The last look at the capture before a new file takes the place of its target.
+
+ghost use Rattle.std.specs.Prelude.{◌≡◌, IfErr, IsSome};
+
+use crate::replace_error::ReplaceError;
+use crate::seen_file::{SeenFile, is_other};
+use crate::synced::{Place, Synced};
+use std::rt::Files;
+
+/// A file on the disk, after whose sync the capture was found as it was. Only [`Unchanged::look`]
+/// makes one.
+#[derive(Drop)]
+pub struct Unchanged<'a, R: Files> {
+    new: Synced<'a, R>,
+}
+
+impl<'a, R: Files> Unchanged<'a, R> {
+    /// Looks at the capture, and refuses one that has changed since it was found, or that another
+    /// file has replaced. If the target is the capture, that is looked at by its own path, too.
+    pub fn look(
+        files: &R,
+        new: Synced<'a, R>,
+        capture: Option<SeenFile<'_>>,
+    ) -> Result<Unchanged<'a, R>, ReplaceError>
+        ensures { IfErr result (λ e. (e ≡ ReplaceError.CaptureChanged) × IsSome capture.entry) }
+    {
+        refuse_replaced(files, capture)?;
+        if let Some(capture) = capture {
+            if has_lost(files, new.place(), &capture) {
+                return Err(ReplaceError::CaptureChanged);
+            }
+        }
+        Ok(Unchanged { new })
+    }
+
+    pub fn into_synced(self) -> Synced<'a, R> {
+        self.new
+    }
+}
+
+/// Refuses a capture that has changed since it was found, or that another file has replaced.
+pub fn refuse_replaced<R: Files>(
+    files: &R,
+    capture: Option<SeenFile<'_>>,
+) -> Result<(), ReplaceError>
+    ensures { IfErr result (λ e. (e ≡ ReplaceError.CaptureChanged) × IsSome capture.entry) }
+{
+    match capture {
+        Some(capture) if capture.is_replaced(files) => Err(ReplaceError::CaptureChanged),
+        _ => Ok(()),
+    }
+}
+
+/// Whether the target was this capture, and is another file by now.
+fn has_lost<R: Files>(files: &R, place: &Place<'_, R>, capture: &SeenFile<'_>) -> bool {
+    match &place.old {
+        Some(old) if capture.was(&old.state) => is_other(files, place.target.as_str(), &old.state),
+        _ => false,
+    }
+}
