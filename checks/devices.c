@@ -9,6 +9,7 @@
      OUTPUT_ROOM=N      the file that is written does so
      TAKES_NONE=1       where it would fail so, a write takes no byte instead
      FAILS_ONCE=1       where it would fail so, it does once, and then takes all
+     MEMORY=F           the file F is opened in place of /proc/meminfo
      TOLD=F             each read, each write to standard output or to a file, and the refused growth makes the file F
                         longer by a line: `read`, `reply`, `output` or `refused`. So does the line `allow`:
                         `N growths of B bytes, G given back`, where B is how many bytes more were asked for in all
@@ -34,10 +35,11 @@ extern char *getenv(const char *);
 extern long atol(const char *);
 extern void *memset(void *, int, size_t);
 extern int memcmp(const void *, const void *, size_t);
+extern int strcmp(const char *, const char *);
 extern size_t strlen(const char *);
 extern int sprintf(char *, const char *, ...);
-extern int open(const char *, int, ...);
 extern int close(int);
+extern long syscall(long, ...);
 extern ssize_t readv(int, const struct iovec *, int);
 extern ssize_t writev(int, const struct iovec *, int);
 extern void *__libc_malloc(size_t);
@@ -47,6 +49,15 @@ extern void __libc_free(void *);
 static long number_of(const char *name) {
     const char *text = getenv(name);
     return text ? atol(text) : 0;
+}
+
+int open(const char *path, int flags, ...) {
+    __builtin_va_list rest;
+    __builtin_va_start(rest, flags);
+    int mode = flags & O_CREAT ? __builtin_va_arg(rest, int) : 0;
+    __builtin_va_end(rest);
+    const char *memory = getenv("MEMORY");
+    return syscall(2, memory && !strcmp(path, "/proc/meminfo") ? memory : path, flags, mode);
 }
 
 /* Writes to a device, whatever it is to do. */

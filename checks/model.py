@@ -55,6 +55,7 @@ class Signal:
     name: tuple  # the words of its own name: the range may be one
     scopes: tuple  # of each its kind and the words of its name
     values: tuple = ()
+    origin: int = None  # its place in the capture that was read, unless it was derived or is skipped
 
     def full_name(self):
         return ".".join("".join(words) for words in [*(words for _, *words in self.scopes), self.name])
@@ -67,6 +68,8 @@ class Capture:
     skipped: int
     end: int
     signals: tuple
+    declared: tuple  # the variables of the file, skipped ones, too, each with its code
+    is_cut: bool = False
 
 
 def filler(letter):
@@ -116,18 +119,21 @@ class Reader:
     def __init__(self, text):
         self.words = Words(text)
         self.header, self.timescale, self.scopes, self.skipped = [], (), [], 0
-        self.declared = []  # the kept signals, each with its code
+        self.declared, self.kept = [], []  # all variables, and the kept ones, each with its code
         self.width_of = {}  # of each code, or None if its variables are skipped
         self.time, self.changes = 0, {}  # by code and time
 
-    def capture(self):
+    def read(self):
         while (word := self.words.take()) != "$enddefinitions":
             self.declaration(word)
         self.words.take_end()
         while self.words.left:
             self.change(self.words.take())
-        signals = [replace(signal, values=self.values(signal.width, code)) for signal, code in self.declared]
-        return Capture(tuple(self.header), self.timescale, self.skipped, self.time, tuple(signals))
+
+    def capture(self):
+        self.read()
+        signals = [replace(signal, values=self.values(signal.width, code)) for signal, code in self.kept]
+        return Capture(tuple(self.header), self.timescale, self.skipped, self.time, tuple(signals), self.declared)
 
     def declaration(self, word):
         words = self.words
@@ -156,9 +162,11 @@ class Reader:
         code, name = words.take_part("BadVar"), (words.take_part("BadVar"), *words.take_up_to_end())
         width = int(size) if is_kept(kind, size) else None
         words.want(self.width_of.setdefault(code, width) == width, "MixedCode")
+        signal = Signal(kind, width, name, tuple(self.scopes), origin=len(self.kept) if width else None)
+        self.declared.append((signal, code))
         if width:
-            words.want(len(self.declared) < MOST_SIGNALS, "TooManySignals")
-            self.declared.append((Signal(kind, width, name, tuple(self.scopes)), code))
+            words.want(len(self.kept) < MOST_SIGNALS, "TooManySignals")
+            self.kept.append((signal, code))
         else:
             self.skipped += 1
 
@@ -278,7 +286,7 @@ def shift(capture, position, by):
 def cut(capture, start, stop):
     want(start < stop <= capture.end, "BadRange")
     signals = [replace(signal, values=signal.values[:start] + signal.values[stop:]) for signal in capture.signals]
-    return replace(capture, signals=tuple(signals), end=capture.end - (stop - start))
+    return replace(capture, signals=tuple(signals), end=capture.end - (stop - start), is_cut=True)
 
 
 def deglitch(capture, position, ticks):
@@ -463,18 +471,20 @@ class Session:
     """A capture, and those that can be taken back or made again."""
 
     def __init__(self, capture, depth):
-        self.capture, self.depth, self.to_undo, self.to_redo = capture, depth, [], []
+        self.first, self.capture, self.depth, self.to_undo, self.to_redo = capture, capture, depth, [], []
 
     def reply(self, words):
-        """Carries out a line, and gives the lines of its reply."""
-        command, *operands = words
+        """Carries out a line, and gives the lines of its reply. What its words mean is kept, and at which positions the
+        signals are that it names."""
+        (command, *operands), self.operands, self.meant = words, None, []
         want(command in COMMANDS, "UnknownCommand")
         carry_out, readers = COMMANDS[command]
         if command == "derive":
             readers = self.readers_of_derive(operands)
         want(len(operands) == len(readers), "WrongCount")
-        return carry_out(self, *[reader(word) if callable(reader) else self.position(word, reader)
-                                 for reader, word in zip(readers, operands)])
+        self.operands = [reader(word) if callable(reader) else self.position(word, reader)
+                         for reader, word in zip(readers, operands)]
+        return carry_out(self, *self.operands)
 
     def readers_of_derive(self, operands):
         want(len(operands) >= 2, "WrongCount")
@@ -485,10 +495,12 @@ class Session:
         if reader == "NAME or -" and name == "-":
             return None
         if re.fullmatch("@[0-9]+", name) and int(name[1:]) < len(self.capture.signals):
-            return int(name[1:])
-        names = [signal.full_name() for signal in self.capture.signals]
-        want(name in names, "NoSuchName")
-        return names.index(name)
+            self.meant.append(int(name[1:]))
+        else:
+            names = [signal.full_name() for signal in self.capture.signals]
+            want(name in names, "NoSuchName")
+            self.meant.append(names.index(name))
+        return self.meant[-1]
 
     def list(self):
         return [f"timescale {' '.join(self.capture.timescale) or 'none'}", f"end {self.capture.end}",
@@ -587,22 +599,29 @@ COMMANDS = {
 }
 
 
-def run(capture, script=b"list", depth=100):
-    """(status, replies, errors, written file or None) of a script on a capture, all as bytes."""
+def carry_out(capture, script, depth, watch=lambda *line: None):
+    """(session or None, status, replies, errors) of a script on a capture, all as bytes. `watch` is given the number of
+    each line, its words, the capture before it, the session after it, and the refusal or None."""
     try:
         session = Session(Reader(capture.decode("latin-1")).capture(), depth)
     except Fault as fault:
         name, line = fault.args
-        return 3, b"", f"vcdedit: capture line {line}: {name}\n".encode(), None
+        return None, 3, b"", f"vcdedit: capture line {line}: {name}\n".encode()
     status, replies = 0, []
     for place, line in enumerate(script.decode("latin-1").split("\n"), 1):
-        words = re.findall(WORD, line)
+        words, before, refusal = re.findall(WORD, line), session.capture, None
         if not words or words[0].startswith("#"):
             continue
         try:
             replies += session.reply(words)
         except Refused as refused:
-            status = 1
+            status, refusal = 1, str(refused)
             replies.append(f"line {place}: refused: {refused}")
-    told = "".join(line + "\n" for line in replies)
-    return status, told.encode("latin-1"), b"", written(session.capture).encode("latin-1")
+        watch(place, words, before, session, refusal)
+    return session, status, "".join(line + "\n" for line in replies).encode("latin-1"), b""
+
+
+def run(capture, script=b"list", depth=100):
+    """(status, replies, errors, written file or None) of a script on a capture, all as bytes."""
+    session, *ending = carry_out(capture, script, depth)
+    return *ending, session and written(session.capture).encode("latin-1")

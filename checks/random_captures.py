@@ -10,7 +10,7 @@ WIDTHS = [*[1] * 12, *[2] * 4, 3, 3, 4, 8, 63, 64, 65, 128, 129, WIDEST]
 TOO_WIDE = str(WIDEST + 1)
 SKIPPED_SIZES = ["0", "00", TOO_WIDE, "99999999999999999999999"]
 CODES = ["!", '"', "#", "$x", "ab", "!!", "~z9", "%%%%", "b0", "1", "a", "A", "\xe9"]
-NAMES = ["a", "b", "clk", "Clk", "data", "a.b", "q[1:0]", "\xe9", "$x"]
+NAMES = ["a", "b", "clk", "Clk", "data", "a.b", "q[1:0]", "\xe9", "\xc3\xa9\x1b", "$x"]
 RANGES = [[], [], [], ["[3:0]"], ["[0]"], ["[1]", "[7:0]"], ["[", "3:0", "]"]]
 SCOPES = [["top"], ["top"], ["sub"], ["u"], [], ["of", "two"]]
 LETTERS = {"0": "0lL", "1": "1hH", "x": "xXuUwW-", "z": "zZ"}
@@ -58,9 +58,10 @@ def spoilt_wave(chance, wave, end):
 
 
 def uart_wave(chance, end, setup):
-    """Frames of this setup, some with a wrong bit, and now and then chatter before them."""
+    """Frames of this setup, some with a wrong bit, and now and then chatter, or idle line, before them."""
     (ticks, bits), data, parity, stop = setup
-    wave, tick = {0: chance.choice("1111z0")}, chance.randint(1, 5)
+    frame = (2 * (data + (parity != "none") + stop) + 1) * ticks // (2 * bits) + 1  # its ticks up to the last sample
+    wave, tick = {0: chance.choice("1111z0")}, chance.choice([*range(1, 6), frame - 1, frame])
     while tick <= end:
         if chance.often(0.2):
             wave |= {tick + place: chance.choice("01") for place in range(ticks // bits)}
@@ -153,7 +154,7 @@ class Net:
     """What has one code: a wave, or a variable that is skipped."""
 
     def __init__(self, chance, code, wave=None, width=None, end=0):
-        self.code, self.is_kept = code, wave is not None or chance.often(0.85)
+        self.code, self.is_kept = code, wave is not None or chance.often(0.75)
         self.width = width or (chance.choice(WIDTHS) if self.is_kept else 1)
         self.wave = noise(chance, self.width, end) if wave is None else wave
 
@@ -165,6 +166,7 @@ class Capture:
         """`farthest` is the share of those that end at the last tick there is. There are at most so many variables, and
         one more if one is put in as a fault."""
         self.chance, self.end, self.signals, self.most = chance, chance.choice([0, 3, 10, 40, 40, 150]), [], most
+        self.names = []  # of skipped variables
         codes, self.protocol = chance.sample(CODES, 6), chance.choice(["", "", "uart", "spi", "i2c"])
         if self.protocol:
             self.end = chance.randint(60, 500 if self.protocol == "i2c" else 300)
@@ -207,13 +209,16 @@ class Capture:
     def variable(self, net, opened):
         chance = self.chance
         name = [chance.choice(NAMES + ["n%d" % len(self.signals)] * 3), *chance.choice(RANGES)]
+        self.name = name = self.name if self.signals and chance.often(0.15) else name
         kind, size = chance.choice(KINDS), chance.choice(["", "", "", "0"]) + str(net.width)
+        full_name = ".".join("".join(words) for words in [*opened, name])
         if net.is_kept:
-            self.signals.append((".".join("".join(words) for words in [*opened, name]), net.width))
+            self.signals.append((full_name, net.width))
         elif chance.often(0.7):
-            kind = chance.choice(SKIPPED_KINDS)
+            kind = chance.choice(SKIPPED_KINDS + ["event"] * 3)
         else:
             size = chance.choice(SKIPPED_SIZES)
+        self.names += [] if net.is_kept else [full_name]
         return ["$var", kind, size, net.code, *name, "$end"]
 
     def extras(self, share):

@@ -49,7 +49,17 @@ LETTERS, SPARE = bytes.maketrans(b"LlHhXUuWw-Z", b"0011xxxxxxz"), re.compile(rb"
 SCALARS = {letter: b"%c" % LETTERS[letter] for letter in b"01lLhHxXuUwWzZ-"}
 VECTORS, REALS = frozenset(b"bB"), frozenset(b"rRsS")
 STAMP, DOLLAR = b"#$"
+# A command among the declarations, with its words.
+COMMAND = re.compile(rb"\s*(\$\S+)(.*?)\s\$end(?=\s)", re.S)
+# The words of a line that are times, by its command, and such a word with a unit.
+TIMES = {b"shift": [2], b"cut": [1, 2], b"deglitch": [2], b"force": [2, 3], b"value": [2], b"uart": [2]}
+UNITED = re.compile(rb"([-+]?)(?:([0-9]{1,20}(?:\.[0-9]{1,15})?)([munpf]?s)|([1-9][0-9]{0,19})baud)")
 LINES_SHOWN = 10
+# Options that the program has, too.
+PART = [
+    ("--keep", "PATTERN", "keep only variables whose full names match"), ("--remove", "PATTERN", "leave these out"),
+    ("--from", "TIME", "the first tick of a part, or a time as 1.5ms"), ("--to", "TIME", "its last one"),
+]
 
 # What a file is that is no plain VCD, and what to do, by its first bytes.
 OTHER_FILES = [
@@ -198,30 +208,73 @@ def variables_in(words, listing):
     return codes, skipped
 
 
+def declared_in(file):
+    """Each command of the declarations of an open file: a match, its words, and the full name if it is a variable."""
+    text, place, scopes = b"", 0, []
+    while True:
+        if command := COMMAND.match(text, place):
+            words, place = command[2].split(), command.end()
+            if command[1] == b"$scope":
+                scopes.append(b"".join(words[1:]))
+            elif command[1] == b"$upscope":
+                del scopes[-1:]
+            yield command, words, b".".join([*scopes, b"".join(words[3:])]) if command[1] == b"$var" else None
+            if command[1] == b"$enddefinitions":
+                return
+        else:
+            # With a line feed behind it the last word is whole.
+            more = os.pread(file.fileno(), max(CHUNK, len(text)), len(text)) or b"\n" * (not text[-1:].isspace())
+            if not more or text[place:].lstrip()[:1] not in (b"", b"$"):
+                return
+            text += more
+
+
+def in_ticks(line, timescale):
+    """A line of a script with ticks in place of times with units, where these are whole, or a fraction for BIT."""
+    words = line.split()
+    for place in TIMES.get(b"".join(words[:1]), ()):
+        if found := UNITED.fullmatch(b"".join(words[place : place + 1])):
+            sign, number, unit, rate = map(shown, found.groups(b""))
+            count = 1 / fractions.Fraction(rate) if rate else fractions.Fraction(number)
+            ticks = count * unit_ticks(unit or "s", timescale)
+            if words[0] == b"uart" or not rate and ticks.denominator == 1:
+                words[place] = os.fsencode(sign + str(ticks))
+    return line if words == line.split() else b" ".join(words)
+
+
+def lines_in_ticks(lines, file):
+    """Lines of a script for a file that is open, with their times in its ticks."""
+    if not any(map(UNITED.search, lines)):
+        return lines
+    scales = [b"".join(words) for command, words, _ in declared_in(file) if command[1] == b"$timescale"]
+    scale = re.fullmatch(rb"(10{0,2})([munpf]?s)", b"".join(scales[-1:]))
+    return [in_ticks(line, shown(b"%s %s" % scale.groups())) for line in lines] if scale else lines
+
+
 def changes_in(words):
-    """(tick, code, value) of each change, the value in the fewest letters, or none of a real; no code of a comment."""
+    """(tick, code, value, letters) of each change, the value in the fewest, or none of a real; no code of a comment."""
     tick = 0
     for word in words:
         first = word[0]
         if first in SCALARS:
-            yield tick, word[1:], SCALARS[first]
+            yield tick, word[1:], SCALARS[first], word[:1]
         elif first == STAMP:
             tick = int(word[1:])
         elif first in VECTORS:
             value = word[1:].translate(LETTERS)
-            yield tick, next(words, None), value[SPARE(value).end() :]
+            yield tick, next(words, None), value[SPARE(value).end() :], word
         elif first in REALS:
-            yield tick, next(words, None), None
+            yield tick, next(words, None), None, word
         elif first == DOLLAR and word not in DUMP_WORDS:
             if word == b"$comment":
-                yield tick, None, None
+                yield tick, None, None, None
             collections.deque(itertools.takewhile(b"$end".__ne__, words), 0)
 
 
 def losses_of(words, names):
     """(what, lines about variables) of the comments and changes that vcdedit leaves out, by the names of codes."""
     reals, replaced, comments, seen = collections.Counter(), collections.Counter(), 0, {}
-    for tick, code, value in changes_in(words):
+    for tick, code, value, _ in changes_in(words):
         if code is None:
             comments += 1
         elif code in names and value is None:
@@ -241,7 +294,7 @@ def losses_of(words, names):
 def ticks_in(words, numbers):
     """(tick, {number: value}) of what changes at each tick, by the numbers of codes. At the first all have a value."""
     tick, found, values = 0, dict.fromkeys(numbers, b"x"), {}
-    for after, code, value in itertools.chain(changes_in(words), [(None, None, None)]):
+    for after, code, value, _ in itertools.chain(changes_in(words), [(None, None, None, None)]):
         if after != tick and found:
             yield tick, {number: value for code, value in found.items() if values.get(code) != value
                          for number in numbers[code]}
@@ -324,6 +377,13 @@ def window_of(options, timescale, end, what):
     if first > last:
         raise Trouble("--from: tick %d is past the last that is %s, %d" % (first, what, last), status=2)
     return first, last
+
+
+def add_part(parser):
+    """Gives a parser the options for a part, as the program has them."""
+    for option, metavar, meant in PART:
+        parser.add_argument(option, metavar=metavar, dest="part", action="append", default=[],
+                            type=(option + "=").__add__, help=meant)
 
 
 def parser_of(name, text, operands):

@@ -9,7 +9,7 @@ import re
 import subprocess
 
 import vcd_files
-from vcd_files import program, shortened, shown
+from vcd_files import counted, program, shortened, shown
 
 # Letters of a line that are shown, near names that are, and among how many they are sought by their spelling.
 LONGEST, NAMES_SHOWN, SOUGHT = 100, 3, 10000
@@ -88,12 +88,14 @@ def name_of(word, names):
     return names[int(position[1])] if position and int(position[1]) < len(names) else word
 
 
-def told_refusals(refused, lines, listing):
-    """Lines about the refused lines of a script, by number and refusal, for a capture with this listing."""
-    return shortened(refused, lambda one: told_refusal(*one, lines[one[0] - 1], listing))
+def told_refusals(refused, lines, listing, file):
+    """Lines about the refused lines of a script, by number and refusal, for an open capture with this listing."""
+    is_asked = any(name == "NoSuchName" for _, name in refused)
+    declared = {name: words for _, words, name in vcd_files.declared_in(file) if name} if is_asked else {}
+    return shortened(refused, lambda one: told_refusal(*one, lines[one[0] - 1], listing, declared))
 
 
-def told_refusal(number, name, line, listing):
+def told_refusal(number, name, line, listing, declared):
     told, command = ["line %d: %s: %s" % (number, short(line), name)], shown(line.split()[0])
     meaning = [MEANINGS.get(("refusal", name), "")]
     if name == "UnknownCommand":
@@ -107,7 +109,7 @@ def told_refusal(number, name, line, listing):
         words = [word for word in map(shown, line.split()) if re.fullmatch(NUMBERS[name], word)]
         told += [told_number(word, listing.timescale) for word in words]
     names = [signal.name for signal in listing.signals]
-    return told + (name == "NoSuchName" and told_names(signals_in(line), names) or meaning)
+    return told + (name == "NoSuchName" and told_names(signals_in(line), names, declared) or meaning)
 
 
 def told_number(word, timescale):
@@ -120,12 +122,15 @@ def told_number(word, timescale):
         return trouble.lines[0]
 
 
-def told_names(words, names):
+def told_names(words, names, declared):
     """Lines about the names that a capture has not, or else about those that it had before the lines above."""
     told, unknown = [], [word for word in words if name_of(word, names) not in names]
     for word in unknown:
         if re.fullmatch(rb"@[0-9]+", word):
             told.append("%s: the capture has %d signals, the first is @0" % (shown(word), len(names)))
+        elif word in declared:
+            kind, width, *_ = map(shown, declared[word])
+            told.append("%s is left out: %s, %s" % (shown(word), kind, counted(int(width), "bit%s")))
         elif found := near_names(word, names):
             told.append("%s: near names are %s" % (shown(word), ", ".join(found)))
     if not unknown:

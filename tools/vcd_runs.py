@@ -9,6 +9,7 @@ import shutil
 import signal
 import subprocess
 
+import vcd_files
 import vcd_messages
 from vcd_files import NO_ROOM, Trouble, program, shown
 
@@ -17,7 +18,7 @@ INTERRUPTIONS = [signal.Signals["SIG" + name] for name in "INT TERM HUP QUIT ALR
 # The commands of a script that edit.
 EDITS = b"rename remove invert shift cut deglitch force derive".split()
 # Lines without words and comments have no reply, others one, `changes` more while later ticks follow, and those that
-# decode any number, so a listing comes behind them, which begins with HEAD.
+# decode any number, so a listing comes behind them, which begins with HEAD. Among the replies of `spi` are the changes of CS.
 DECODERS, HEAD, LATER = {b"uart", b"spi", b"i2c"}, b"timescale ", re.compile(rb"[1-9][0-9]* \S+\n").fullmatch
 # Remarks of vcdedit-amend on a line, by its number, and on its output and the capture, on standard error.
 REMARK, OF_CAPTURE = re.compile(r"^line (\d+): (.*)\n", re.M), "capture: the last line"
@@ -55,14 +56,22 @@ def listing_of(lines):
     return Listing(shown(head[b"timescale"]), int(head[b"end"]), int(head[b"skipped"]), signals)
 
 
-class Run:
-    """A run of a program on a capture that is open for bytes. It lists, and then answers lines of a script."""
+def behind(line):
+    """The lines that are asked behind a line that decodes: the changes of a CS, and a listing."""
+    command, *words = line.split() or [b""]
+    changes = b"changes %s\n" % words[3] if command == b"spi" and words[3:4] not in ([], [b"-"]) else b""
+    return changes + b"list\n" if command in DECODERS else b""
 
-    def __init__(self, source, lines=(), words=(), name="vcdedit-amend", path="/dev/stdin", **how):
+
+class Run:
+    """A run of vcdedit-amend on a capture that is open for bytes. It lists, and then answers lines of a script."""
+
+    def __init__(self, source, lines=(), words=(), path="/dev/stdin", **how):
         """`words` are more options. The program opens the capture by a path. If `lines` are None, it has no script."""
-        self.source, self.lines, self.program = source, lines, program(name)
+        self.source, self.asked, self.program = source, lines, program("vcdedit-amend")
+        self.lines = vcd_files.lines_in_ticks(lines or (), source)
         # The numbers of the lines in the script below.
-        texts = [line + b"\nlist" * (command_of(line) in DECODERS) + b"\n" for line in lines or ()]
+        texts = [line + b"\n" + behind(line) for line in self.lines]
         self.numbers = list(itertools.accumulate((text.count(b"\n") for text in texts), initial=2))
         with open(os.memfd_create("script"), "wb") as script:
             script.write(b"list\n" + b"".join(texts))
@@ -115,7 +124,10 @@ class Run:
         return self.errors.read().decode("utf-8", "replace")
 
     def remarks(self):
-        """(place of a line, remark) of each remark that the program has made on the lines."""
+        """(place of a line, remark) of each line that is carried out otherwise, and each remark of the program."""
+        for place, line in enumerate(self.lines):
+            if line is not self.asked[place]:
+                yield place, "carried out as: " + shown(line)
         for number, remark in REMARK.findall(self.told()):
             yield bisect.bisect(self.numbers, int(number)) - 1, remark
 

@@ -32,7 +32,7 @@ FILES = {
     **dict.fromkeys(["A", "B", "B.orig", "fixed", "kept/A", "sub/p", ODD, NO_TEXT], LINE),
     "inuse/p": LINE, "inuse/.p.vcdedit": "of another", "late": LINE.replace("1 us", "1 ns").replace("#30", "#40"),
     "packed": gzip.compress(LINE.encode()), "faulty": "#0\n", "analog": LINE + "A0: -10 V\n", "torn": LINE + "#9\n",
-    "some": "value tb.rx 5\nundo\n" + SCRIPT, "named": "rename tb.rx volts\n",
+    "some": "value tb.rx 5\nundo\n" + SCRIPT, "named": "rename tb.rx volts\n", "timed": "shift tb.rx 0.003ms\n",
     "wild": "value %s 3\nvalue x\0y 3\n" % ("x" * 2**17), "asks": "# a comment\n\n  changes tb.rx \nvalue tb.rx 5\n",
 }
 LINKS = {"link": "sub/p", "lost": "nowhere", "kept/B": "../B", "A.old": "A", "to_orig": "B.orig"}
@@ -60,6 +60,8 @@ RUNS = [
     ("script faulty A --jobs 4", 3, ["1 written, 1 not, status 3", "A: written: 1 ok", GLOB[1]], {"A": DONE}, "line 1"),
     ("some A", 1, ["A:1: 0", "A: as it was: 1 line refused"], {}, "A: some line 2: undo: NothingToUndo\n"),
     ("some A --keep-going", 1, ["A:1: 0", "A: written: 1 ok, 1 line refused"], {"A": DONE}, "A: some line 2: undo: "),
+    ("timed A --dry-run", 0, ["A: would be written: 1 ok"], {}, "A: timed line 1: carried out as: shift tb.rx 3\n"),
+    ("timed A --dry-run -q", 0, ["A: would be written: 1 ok"], {}),
     ("wild A", 1, ["A: as it was: 2 lines refused"], {}, "A: wild line 1: value xx",
      r"line 2: value x\x00y 3: NoSuchName"),
     # A glob is named again: no capture is edited twice, and no backup.

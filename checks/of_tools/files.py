@@ -22,6 +22,12 @@ TIMES = [
     *((text, "1 ns", None) for text in ["", *"1e3 .5us 5.us 1.5 +5 1US 1.0001us 0.5ns 1.0000000000000000s".split()]),
     *((text, "1 ns", None) for text in ["1 us", "\N{ARABIC-INDIC DIGIT ONE}", "9" * 5000]),
 ]
+# A line, and what it is at 10 us.
+LINES = {
+    "shift a -1.5ms": "shift a -150", "cut 1us +2s": "cut 1us +200000", "force 1ms 20us 1ms 1s": "force 1ms 2 100 1s",
+    "uart 1us 86.8us 8 none 1": "uart 1us 217/25 8 none 1", "uart a 9600baud": "uart a 125/12", "list 1s": "list 1s",
+    "deglitch a 100baud": "deglitch a 100baud", "value a": "value a", "uart a 0baud 8": "uart a 0baud 8",
+}
 # A pattern, a name, and whether it is meant.
 MATCHES = [
     ("tb.q[7:0]", b"tb.q[7:0]", True), ("tb.q[7]*", b"tb.q[7][1:0]", True), ("tb.q[7]*", b"tb.q7", False),
@@ -124,5 +130,9 @@ def check():
         losses = vcd_files.losses_of(vcd_files.words_of(io.BytesIO(text)), {b"!": "a", b'"': "b"})
         found = {kind.rstrip("s"): int(count) for count, kind, *_ in (what.split(" ") for what, _ in losses)}
         yield same("lost of %s" % text[:40], found, wanted)
+    for scale, lines in (("$timescale 1 s $end $timescale 1\n0 us $end", LINES), ("", {line: line for line in LINES})):
+        with open(store("c", text="$comment $timescale 1 s $end %s $enddefinitions $end" % scale), "rb") as file:
+            found = vcd_files.lines_in_ticks([line.encode() for line in lines], file)
+        yield same("lines in ticks", found, [line.encode() for line in lines.values()])
     for text, what in OTHERS:
         yield "a file that is " + what, what in (vcd_files.what_else(text) or ["none"])[0]

@@ -1,11 +1,16 @@
 """What the documents say of memory, and what vcdedit-amend foretells, compared with runs."""
 
 import os
+import pty
 import re
 import resource
+import signal
+import subprocess
 import sys
+import time
 
 from common import TOP, module_of, run, same, store, text_at
+from preloading import Devices
 
 BYTES_OF_CHANGE = 272
 BYTES_WHILE_READ = 32
@@ -62,13 +67,32 @@ def signals(module):
         yield "%.0f bytes a signal" % each, is_near(each, BYTES_OF_SIGNAL, 0.2)
 
 
+def shown_at_last(words):
+    """What a run shows on a terminal that waits for two seconds soon after it has begun."""
+    terminal, side = pty.openpty()
+    child = subprocess.Popen(words, stdout=subprocess.DEVNULL, stderr=side)
+    time.sleep(0.2)
+    child.send_signal(signal.SIGSTOP)
+    time.sleep(2)
+    child.send_signal(signal.SIGCONT)
+    child.wait()
+    return os.read(terminal, 100000).decode()
+
+
 def forecasts():
-    """What vcdedit-amend foretells of changes that do not fit in memory, and of changes that do."""
+    """What vcdedit-amend foretells of changes that do not fit in memory, and of changes that do; how far it is."""
     declared = '$var wire 1 ! x $end\n$var wire 1 " y $end\n$enddefinitions $end\n'
     ticks = "".join('#%d\n%d!\n%d"\n' % (tick, tick % 2, tick % 2) for tick in range(CHANGES))
     capture, script = store("two", text=declared + ticks), store("script", text="value x 5\n")
     words = [os.environ["VCDEDIT_AMEND"], capture, "--script", script]
     yield same("ample memory", run(words), (0, "1\n", ""))
+    shown = shown_at_last(words)
+    parts = list(map(int, re.findall(r"\rvcdedit-amend: [a-z ]{20} ([ 0-9]{3}) %", shown)))
+    right = parts and max(parts) <= 100 and shown.endswith("\r%41s\r" % "")
+    yield "on a terminal: %r" % shown, right
+    little = store("meminfo", text="MemTotal: 99999999 kB\nMemAvailable: 9 kB\n")
+    told = Devices(".").run(words, {"MEMORY": os.path.abspath(little)})[2]
+    yield "little is available: %s" % told, b": memory may run out: " in told
     limit = lambda: resource.setrlimit(resource.RLIMIT_AS, (LIMIT, resource.RLIM_INFINITY))
     compare = [os.path.join(TOP, "tools/vcdedit-compare"), "--from=%d" % (CHANGES - 9), capture, capture]
     yield same("a comparison in little memory", run(compare, preexec_fn=limit)[0], 0)

@@ -41,19 +41,25 @@ SPI_ROWS = """line  decoder  first  last  first_us  last_us  what       mosi
 """
 SPI_LINES = ["spi c d - - 0 4 msb", "spi c d - - 0 2 msb"]
 REMARKS = ["spi: CLK becomes x or z: 1, at 15"]
-UART, GLITCHES, IVERILOG = (
-    os.path.join(EXAMPLES, name, "capture.vcd") for name in ("sigrok-uart", "glitches", "iverilog"))
+# Words of two bits in two selections, the first of which has two.
+SELECTED = """$var wire 1 ! c $end $var wire 1 " d $end $var wire 1 # s $end $enddefinitions $end
+#0 0! 1" 0# #1 1! #2 0! #3 1! #4 0! #5 1! #6 0! #7 1! #8 0! 1# #9 1! #10 0! 0# #11 1! #12 0! #13 1! #14 0! 1# #15
+"""
+UART, GLITCHES, IVERILOG, SYSTEMC = (
+    os.path.join(EXAMPLES, name, "capture.vcd") for name in ("sigrok-uart", "glitches", "iverilog", "systemc"))
 # Words, the status, and a part of what is told, or nothing. Where the status is not 0, there is no table.
 TOLD = [
     ([UART, "uart libsigrok.rx 115200 8 none 1"], 0,
-     "vcdedit-table: line 1: uart: is 115200 a baud rate? BIT is how many ticks a bit lasts: 78125/9\n"),
+     "vcdedit-table: line 1: uart: is 115200 a baud rate? BIT is how many ticks a bit lasts, or 115200baud\n"),
+    ([UART, "uart libsigrok.rx 115200baud 8 none 1"], 0,
+     "vcdedit-table: line 1: carried out as: uart libsigrok.rx 78125/9 8 none 1\n"),
     ([UART, "uart libsigrok.rx 9600 8 none 1"], 0,
      "vcdedit-table: line 1: uart: edges within frames more than a quarter of a bit early or late"),
     ([UART, "value libsigrok.rx 0"], 0, "no line decodes: write uart, spi or i2c, as in 'i2c bench.scl bench.sda'"),
     ([IVERILOG, "invert bench.clk", "remove @0", "cut 1000 9000"], 0,
      "vcdedit-table: output: variables of one code that differ from now on: bench.clk, "
      "bench.transmitter.clk\nvcdedit-table: no line decodes"),
-    ([GLITCHES, "deglitch bench.rx 3us"], 1, "BadNumber\n    3us: write 3\n"),
+    ([SYSTEMC, "value SystemC.top.fill 3"], 1, "NoSuchName\n    SystemC.top.fill is left out: real, 1 bit\n"),
     ([GLITCHES, "shift bench.rx 3.5us"], 1, "BadNumber\n    3.5us is between tick 3 and the next: write ticks\n"),
     ([GLITCHES, "force bench.rx 3 5 0x2F"], 1, "BadValueText\n    0x2F: write 101111\n"),
     ([I2C, "i2c bench.scl bench.sd"], 1, "bench.sd: NoSuchName\n    bench.sd: near names are bench.sda"),
@@ -103,6 +109,8 @@ def check():
     yield same("no remarks", table("-q", "spi", "--script", "-", given="\n".join(SPI_LINES)), (0, SPI_ROWS, ""))
     lines = json.loads(table("-q", "--json", "spi", *SPI_LINES)[1])
     yield same("remarks, once", [line["remarks"] for line in lines], [REMARKS] * 2)
+    (line,) = json.loads(table("-", "--json", "spi c d - s 0 2 msb", given=SELECTED)[1])
+    yield same("selections", [(row["first"], row["selection"]) for row in line["rows"]], [(1, 1), (5, 1), (11, 2)])
     yield same("no rows", [table(I2C, *form, "list")[1] for form in ([], ["--json"])], ["", "[\n]\n"])
     for tick, timescale, wanted in TIMES:
         yield same("%d at %s" % (tick, timescale), module_of(TOOL).microseconds(tick, timescale), wanted)

@@ -1,13 +1,11 @@
 """What is decoded, as it is shown: the rows, remarks, the written file, what GTKWave is to show, viewers."""
 
-import contextlib
 import os
 import re
 import signal
 import sys
-import unittest.mock
 
-from common import EXAMPLES, TOP, load, load_if_there, module_of, run, same, store, store_program
+from common import EXAMPLES, TOP, load, load_if_there, run, same, store, store_program
 
 TOOL = os.path.join(TOP, "tools/vcdedit-view")
 I2C, I2C_LINE = os.path.join(EXAMPLES, "i2c/capture.vcd"), "i2c bench.scl bench.sda"
@@ -44,6 +42,9 @@ ROWS = {
     "a bus, in a capture of a simulator": (load(I2C).decode(), [I2C_LINE], [], {
         "i2c": "0 -|22 address_0x50_write|93 -|112 data_0x2a|183 -|212 address_0x50_read|283 -|302 data_0xc5|373 -",
         "i2c_conditions": "0 -|15 start|102 ack|192 ack|205 repeated-start|292 ack|382 nack|395 stop"}),
+    "what looks like stamps": (
+        BYTE.replace("$enddef", "$var real 64 #30 v $end $enddef").replace(
+            "#34", "r2.5 #30 $comment #50 $end r1 #30 #34"), ["invert r", LINE], [], {"uart": "0 -|20 byte_0x40|40 -"}),
     "one of two signals of a name": (
         text("r r", '1! 1" #20 0" #34 1" #36 0" #38 1" #50'), ["uart @1 2 8 none 1"],
         ["GTKWave may show another signal of the name: r"], {"uart": "0 -|20 byte_0x40|40 -"}),
@@ -71,20 +72,15 @@ BEFORE = {
     ("remove @0", "invert @0"): ("y", "before.rx y"),
     (): ("rx y", "before.rx before.y rx y"),
 }
-# Options, and the first tick, the ticks in 200 points and the size of what GTKWave is to show of a line with one row.
-# As it ends at tick 255, the last begins earlier than is asked.
-WINDOWS = [
-    ([], 0, 62, (1000, 186)),
-    (["--from", "100us", "--to", "120", "--size", "1600"], 100, 3, (1600, 186)),
-    (["--from", "200", "--size", "800x300"], 194, 18, (800, 300)),
-]
+# Options, and the ticks in 200 points and the size of what GTKWave is to show of a line with one row.
+WINDOWS = [([], 62, (1000, 186)), (["--size", "1600"], 36, (1600, 186)), (["--size", "800x300"], 81, (800, 300))]
 # Words, and the status and a part of what is told. Nothing is written then.
 TWICE = " would be written, and is another file of this command"
 REFUSED = [
     ([I2C, "-o", "new.vcd", "frob", "list"], 1, "vcdedit-view: %s: line 1: frob: UnknownCommand" % I2C),
-    ([I2C, "-o", "pipe.vcd"], 4, "vcdedit-view: pipe.gtkw: is no regular file\n"),
-    ([I2C, "--picture", "to_pipe.png"], 4, "vcdedit-view: to_pipe.png: is no regular file\n"),
-    ([I2C, "-o", "fixed.vcd"], 4, "vcdedit-view: fixed.vcd: is write-protected\n"),
+    ([I2C, "-o", "pipe.vcd"], 4, "vcdedit-view: pipe.gtkw: is no regular file, or is w"),
+    ([I2C, "--picture", "to_pipe.png"], 4, "vcdedit-view: to_pipe.png: is no regular file, or"),
+    ([I2C, "-o", "fixed.vcd"], 4, "vcdedit-view: fixed.vcd: is no regular file, or is w"),
     (["c.vcd", "-o", "linked.vcd"], 2, "linked.vcd" + TWICE), (["-", "-o", "c.vcd"], 2, "c.vcd" + TWICE),
     ([I2C, "--script", "s.vcd", "-o", "./s.vcd"], 2, "./s.vcd" + TWICE),
     (["c.vcd", "-o", "k.vcd", "--picture", "p.png"], 2, "k.gtkw" + TWICE),
@@ -137,11 +133,11 @@ def shown_names():
 
 def settings():
     declared = "".join("$var %s $end\n" % one.replace(" ! ", " c%d " % place) for place, one in enumerate(NAMES))
-    declared += "$var real 64 # v $end $upscope $end $enddefinitions $end #0 #9"
+    declared += "$var real 64 # v $end $upscope $end $enddefinitions $end #0 r2.5 # #9"
     store("c.vcd", text="$scope module my top $end\n%s\n" % declared)
     found = view("c.vcd", "-o", "v.vcd")
-    yield same("what is left out", found, (0, "", "vcdedit-view: c.vcd: 1 variable left out\n"))
-    yield same("names", shown_names(), ["mytop." + name for name in NAMES.values()])
+    yield same("what is told", found, (0, "", ""))
+    yield same("names", shown_names(), ["mytop." + name for name in [*NAMES.values(), "v"]])
     written = load("v.vcd").decode()
     for name in ("module mytop", "rqs", "q [3]", "a[2] [3:0]"):
         yield "a name of one word: " + name, " %s $end\n" % name in written
@@ -156,40 +152,37 @@ def settings():
     store("c.vcd", text=declared + ' #0 b10 ! 1" #9\n')
     view("c.vcd", "-o", "v.vcd", "--before", "invert r", "rename r before.q")
     items = re.findall(r"^\$(?:timescale|scope .* |upscope|dumpvars)", load("v.vcd").decode(), flags=re.M)
-    yield same("a free scope", items, ["$timescale", "$scope module before_2 ", "$upscope", "$dumpvars"])
+    yield same("a free scope", items, ["$timescale", "$scope module before_2 ", "$upscope"])
     store("script", text="value before_2.r 9\nvalue before.q 9\nvalue before_2.q 9\n")
     values = run([os.environ["VCDEDIT"], "-i", "v.vcd", "--script", "script"])
     yield same("the capture before", values[1], "10\n01\n1\n")
-    for words, begin, scale, size in WINDOWS:
+    view(I2C, "-o", "v.vcd", "--from", "204", "--to=400us", "--keep", "bench.*", I2C_LINE)
+    parts = {"i2c": "0 -|8 address_0x50_read|79 -|98 data_0xc5|169 -",
+             "i2c_conditions": "0 -|1 start|88 ack|178 nack|191 stop"}
+    yield same("a part", rows_in("v.vcd"), parts)
+    view("v.vcd", "-o", "w.vcd", I2C_LINE)
+    again = {"i2c_2": parts["i2c"], "i2c_conditions_2": parts["i2c_conditions"]}
+    yield same("what is shown, shown again", rows_in("w.vcd"), {**parts, **again})
+    for words, scale, size in WINDOWS:
         view(GLITCHES, "-o", "v.vcd", UART_LINE, *words)
         saved = load("v.gtkw").decode()
         zoom = float(re.search(r"^\*(\S+)", saved, flags=re.M).group(1))
-        told = "[timestart] %d\n[size] %d %d\n" % (begin, *size)
-        yield "the window of %s: %s" % (words, saved), told in saved and int(2**-zoom) == scale
-    tool, old = module_of(TOOL), store("old", text="old")
-    os.chmod(old, 0o600)
-    os.chown(old, *[1, 1] if os.getuid() == 0 else [-1, -1])
-    state_of = lambda: [getattr(os.stat(old), "st_" + name) for name in ("mode", "uid", "gid")]
-    state = state_of()
-    with unittest.mock.patch("os.replace", side_effect=OSError), contextlib.suppress(tool.Trouble):
-        tool.copy_whole(TOOL, old)
-    left = [name for name in os.listdir() if "vcdedit-view" in name]
-    yield same("a copy that fails", (load(old), left), (b"old", []))
-    tool.copy_whole(TOOL, old)
-    yield same("a file that is replaced", (load(old), state_of()), (load(TOOL), state))
+        yield "the window of %s: %s" % (words, saved), "[size] %d %d\n" % size in saved and int(2**-zoom) == scale
+    os.chmod(store("old.vcd", text="old" * 999), 0o600)
+    view(GLITCHES, "-o", "old.vcd")
+    found = oct(os.stat("old.vcd").st_mode), load("old.vcd") == load("old.vcd").replace(b"old", b"")
+    yield same("a file that was there", found, ("0o100600", True))
 
 
 def programs():
-    """A listing that a pipe does not hold, and a capture that changes between two runs."""
-    many = "".join("$var wire 1 ! a_signal_of_many_%d $end\n" % place for place in range(3000))
-    store("many.vcd", text=many + "$enddefinitions $end #0 1! #9\n")
+    """A full standard output, and a capture that changes while it is read."""
     found = view(I2C, "-o", "v.vcd", I2C_LINE, before=["/bin/sh", "-c", 'exec "$@" > /dev/full', "sh"])
     told = "vcdedit-view: standard output or %s: No space left on device\n" % os.path.abspath("tmp")
     yield same("a full standard output", found, (4, "", told))
-    writes = store_program("./writes", text='#!/bin/sh\necho "#9" >> many.vcd\nexec %s "$@"\n' % os.environ["VCDEDIT"])
-    found = view("many.vcd", "-o", "w.vcd", "invert @0", VCDEDIT=writes)
-    told = "vcdedit-view: %s\nvcdedit-view: many.vcd: another program writes it: run again when that has ended\n"
-    told %= DIFFER % (", ".join(map("a_signal_of_many_%d".__mod__, range(5))) + ", and 2995 more")
+    store("c.vcd", text=BYTE)
+    writes = '#!/bin/sh\n%s "$@"; status=$?\necho "#59" >> c.vcd\nexit $status\n' % os.environ["VCDEDIT_AMEND"]
+    found = view("c.vcd", "-o", "w.vcd", VCDEDIT_AMEND=store_program("./writes", text=writes))
+    told = "vcdedit-view: c.vcd: another program writes it: run again when that has ended\n"
     yield same("a capture that changes", found, (4, "", told))
 
 

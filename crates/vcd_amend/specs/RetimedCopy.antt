@@ -1,10 +1,11 @@
 -- A file after cuts as a copy: what other rules put in the place of the pieces that are left. The
 -- project's own.
 use Rattle.std.specs.Prelude.{◌≡◌, ℕ, Bool, true, false, if◌then◌else◌, List, [], ◌∷◌, ◌++◌, map}
-use Rattle.std.specs.Prelude.{IsTrue}
+use Rattle.std.specs.Prelude.{IsTrue, Option}
 use Rattle.vcd_text.specs.Grammar.{ParseState, initial_state, state_after_item, AllowsAll}
 use Rattle.vcd_copy.specs.Pieces.{Piece, IsCut, state_of_pieces}
 use Rattle.vcd_copy.specs.Copied.{CopyRules, copied, copied_pieces}
+use Rattle.vcd_copy.specs.Marks.{IsMarkedFile}
 use Rattle.vcd_amend.specs.Amendment.{Amendment}
 use Rattle.vcd_amend.specs.AmendedText.{amended_text}
 use Rattle.vcd_amend.specs.Retimed.{change_key, held_with, is_past, released_pieces, retimed_fate}
@@ -78,3 +79,9 @@ pub record IsAmendedAfterCuts (limit : ℕ) (is_cut_out : ℕ → Bool) (a : Ame
   pub in_body : IsTrue (state_of_pieces limit pieces).in_body
   pub is : text ≡ amended_text a true (initial_state limit) (pieces_after is_cut_out limit pieces)
       tail
+
+-- the same of the file with a mark, if there is one
+abbrev pub IsAmendedWithMark : (limit : ℕ) → (mark : Option Piece) → (is_cut_out : ℕ → Bool)
+    → Amendment → (file text : List ℕ) → Type 0
+IsAmendedWithMark limit mark is_cut_out a file text = (marked : List ℕ)
+    × IsMarkedFile limit mark file marked × IsAmendedAfterCuts limit is_cut_out a marked text

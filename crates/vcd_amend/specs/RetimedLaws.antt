@@ -4,12 +4,12 @@ use Rattle.std.specs.Prelude.{nat_lt, nat_le, if◌then◌else◌, List, [], ◌
 use Rattle.std.specs.Prelude.{not, Option, Some, None, is_some, IsTrue, count_by}
 use Rattle.std.specs.List.{flat_map, filter, list_any}
 use Rattle.std.specs.Cmp.Lexicographic.{pointwise}
-use Rattle.vcd_core.specs.Decimal.{number_of}
 use Rattle.vcd_text.specs.Items.{Item, stamp}
 use Rattle.vcd_text.specs.Grammar.{ParseState, initial_state}
 use Rattle.vcd_text.specs.Grammar.{AllowsAll, is_skipped}
 use Rattle.vcd_text.specs.Meaning.{FileMeans, meaning}
 use Rattle.vcd_copy.specs.Pieces.{Piece, IsCut, state_of_pieces}
+use Rattle.vcd_copy.specs.Ticks.{tick_after_item}
 use Rattle.vcd_amend.specs.Retimed.{new_tick, AreOldTicks, ChangeKey, change_key, code_of_key}
 use Rattle.vcd_amend.specs.Retimed.{has_kept_variable, counts_with, lasts, retimed_pieces}
 use Rattle.vcd_amend.specs.Retimed.{retimed_contents}
@@ -90,11 +90,6 @@ RetimedTextMeansRetimedCapture =
     (count_by is_skipped (state_of_pieces limit pieces).declared)
 
 -- ---- the order of changes
-
--- the tick after an item
-abbrev pub tick_after_item : ℕ → Item → ℕ
-tick_after_item now (stamp digits) = number_of digits
-tick_after_item now item = now
 
 -- the changes at the ticks of a test, among pieces that come after a stamp of `now`
 unfoldable pub changes_at_ticks : (is_at : ℕ → Bool) → (now : ℕ) → List Piece → List Piece

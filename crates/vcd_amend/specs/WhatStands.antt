@@ -23,7 +23,7 @@ use Rattle.vcd_copy.specs.Pieces.{Piece, IsCut, state_of_pieces}
 use Rattle.vcd_amend.specs.AmendedText.{amended_text}
 use Rattle.vcd_amend.specs.GivenCodes.{AreSignalsOf, is_unchanged, signals_left, amendment_for}
 use Rattle.vcd_amend.specs.GivenCodes.{held_codes}
-use Rattle.vcd_amend.specs.RetimedLaws.{tick_after_item}
+use Rattle.vcd_copy.specs.Ticks.{tick_after_item}
 
 -- ---- which items may go, and which may come
 

@@ -3,13 +3,12 @@
 ghost use Rattle.std.specs.Prelude.{◌≡◌, ◌≤◌, List, ℕ, true, false, length, OnOk, IfErr, IfSome};
 ghost use Rattle.std.specs.Prelude.{All};
 ghost use Rattle.std.specs.Io.KnownBytes.{Appends, IsAtEnd};
-ghost use Rattle.vcd_copy.specs.CopyEnds.{CopyFails};
-ghost use Rattle.vcd_copy.specs.Marks.{IsMarkedFile};
+ghost use Rattle.vcd_copy.specs.CopyEnds.{CopyFails, TookFirst};
 ghost use Rattle.vcd_copy.specs.MarkText.{piece_of_mark};
 ghost use Rattle.vcd_text.specs.declared.reading.TheConstants.{LONG_FILE_LIMIT};
 ghost use Rattle.vcd_amend.specs.AmendedMeaning.{AreApart};
 ghost use Rattle.vcd_amend.specs.AmendmentContents.{amendment_contents};
-ghost use Rattle.vcd_amend.specs.RetimedCopy.{IsAmendedAfterCuts, is_cut_by};
+ghost use Rattle.vcd_amend.specs.RetimedCopy.{IsAmendedWithMark, is_cut_by};
 
 mod code_progress;
 pub(crate) mod code_uses;
@@ -37,7 +36,7 @@ use vcd_core::{Sink, Source};
 ///
 /// The file is read as `copy` reads it: the grammar, the first fault and its line are the same. At
 /// a fault of the file, what the writer took is of no use. At `WriteFault` the writer has failed,
-/// and took exactly `written` bytes.
+/// and took exactly `written` bytes: of an accepted file the first ones of the amended file.
 ///
 /// The time grows with the file, and with the changes of the new waves, which are sorted. It takes
 /// 16 bytes for each due change, some bytes for each variable and code, and what `copy` takes, but
@@ -59,9 +58,8 @@ pub fn amend_marked<R: Source, W: Sink>(
     requires ordered { All (λ c. c.from ≤ c.to) cuts.now }
     ensures amended { OnOk result (IfSome (R.coming reader.old) (λ file.
         (length file ≤ LONG_FILE_LIMIT)
-        × (marked : List ℕ) × IsMarkedFile limit (piece_of_mark mark.entry) file marked
-        × (text : List ℕ) × IsAmendedAfterCuts limit (is_cut_by cuts.now)
-        (amendment_contents amendment.now) marked text
+        × (text : List ℕ) × IsAmendedWithMark limit (piece_of_mark mark.entry)
+        (is_cut_by cuts.now) (amendment_contents amendment.now) file text
         × Appends (W.taken writer.old) (W.taken writer.new) text)) }
     ensures not_failed { OnOk result (W.has_failed writer.new ≡ false) }
     ensures flushed { OnOk result (W.is_flushed writer.new ≡ true) }
@@ -71,6 +69,10 @@ pub fn amend_marked<R: Source, W: Sink>(
     ensures fails { IfErr result (CopyFails limit LONG_FILE_LIMIT (R.coming reader.old)
         (R.coming reader.new) (R.has_failed reader.new) (W.taken writer.old) (W.taken writer.new)
         (W.has_failed writer.new)) }
+    ensures begun { IfErr result (TookFirst limit
+        (IsAmendedWithMark limit (piece_of_mark mark.entry) (is_cut_by cuts.now)
+        (amendment_contents amendment.now)) (R.coming reader.old) (W.taken writer.old)
+        (W.taken writer.new) (W.has_failed writer.new)) }
 {
     if cuts.is_empty() {
         let amender = FileAmender::new(alloc, amendment)?;

@@ -1,3 +1,4 @@
 -- Worked cases.
 pub mod EditedFiles
 pub mod OutputRemarks
+pub mod WrongPrefixes

@@ -22,8 +22,6 @@ use Rattle.vcd_script.specs.Run.{RunOutcome, IsRun}
 use Rattle.vcd_hollow.specs.HollowRun.{last_edits, last_capture}
 use Rattle.vcd_amend_run.specs.declared.running.AmendRunError.{AmendRunError}
 use Rattle.vcd_amend_run.specs.declared.running.AmendRunError.TheVariants.{Run, NameOfSkipped}
-use Rattle.vcd_amend_run.specs.declared.running.AmendRunError.TheVariants.{LineRefused}
-use Rattle.vcd_amend_run.specs.declared.running.AmendRunError.TheVariants.{CaptureChanged}
 use Rattle.vcd_amend_run.specs.declared.on_bytes.AmendRefusal.{AmendRefusal}
 use Rattle.vcd_amend.specs.WhatStands.{ItemsStand}
 use Rattle.vcd_amend.specs.RetimedLaws.{AreRetimed}
@@ -68,7 +66,6 @@ AmendFails file script depth replies (Run (run_errors.Capture e)) =
     × (replies ≡ concat written.replies)))
 AmendFails file script depth replies (Run run_errors.ScriptTooLarge) =
     (SCRIPT_LIMIT < length script) × (replies ≡ [])
-AmendFails file script depth replies (Run run_errors.ScriptReadFault) = ⊥
 -- memory ran out before the first line, or at a line, counted from 1
 AmendFails file script depth replies (Run (run_errors.NoMemory zero)) = replies ≡ []
 AmendFails file script depth replies (Run (run_errors.NoMemory (suc before))) =
@@ -85,8 +82,8 @@ AmendFails file script depth replies (Run (run_errors.Write e)) =
 AmendFails file script depth replies NameOfSkipped = (replies ≡ [])
     × (s : ParseState) × Accepts SIGNAL_LIMIT (words_of file) s
     × TakesSkippedName depth (script_lines script) s
-AmendFails file script depth replies LineRefused = ⊥
-AmendFails file script depth replies CaptureChanged = ⊥
+-- no other error comes
+AmendFails file script depth replies error = ⊥
 
 -- what amending the bytes of a file by a script gives: the replies of the script's run on what the
 -- file means, and the file after it

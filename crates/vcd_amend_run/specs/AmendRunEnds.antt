@@ -1,7 +1,7 @@
 -- How amending a file by a script ends on any devices, by its result. The project's own.
 use Rattle.std.specs.Prelude.{◌≡◌, ◌<◌, ◌⊎◌, ℕ, zero, suc, Bool, true, false, List, length}
 use Rattle.std.specs.Prelude.{take, count_by, ◌≤◌, is_some}
-use Rattle.std.specs.Prelude.{Option, Some, Result, Ok, Err, IfSome, IsSomeAnd}
+use Rattle.std.specs.Prelude.{Option, Some, Result, Ok, Err, IfSome}
 use Rattle.std.specs.List.{concat}
 use Rattle.vcd_core.specs.declared.capture.TheConstants.{SIGNAL_LIMIT}
 use Rattle.vcd_core.specs.Contents.{Contents}
@@ -10,7 +10,6 @@ use Rattle.vcd_text.specs.Words.{words_of}
 use Rattle.vcd_text.specs.Grammar.{ParseState, Accepts, is_skipped}
 use Rattle.vcd_text.specs.Meaning.{meaning}
 use Rattle.vcd_copy.specs.CopyEnds.{ReadFails}
-use Rattle.vcd_text.specs.WriteEnds.{TookBefore}
 use Rattle.vcd_text.specs.declared.fault.ReadError.{ReadError}
 use Rattle.vcd_text.specs.declared.reading.TheConstants.{LONG_FILE_LIMIT}
 use Rattle.vcd_hollow.specs.Origins.{origins}
@@ -120,11 +119,8 @@ module _ (depth : ℕ) (passes : PassEnds) (script replies : DeviceEnd) (output 
     AmendRunEnds (Err (Run (run_errors.ReplyFault count))) = (replies.has_failed ≡ true)
         × IfSome output IsUntouched
         × ForAmendRun (λ written. HasPrefix replies count (concat written.replies))
-    -- the amended file could not be written: all replies are
-    AmendRunEnds (Err (Run (run_errors.Write e))) =
-        IsSomeAnd output (λ out. (text : List ℕ)
-        × TookBefore text out.before out.after out.has_failed e)
-        × ForAmendRun (λ written. HasText replies (concat written.replies))
+    -- only a run with an output ends so (`MarkedRunEnds`)
+    AmendRunEnds (Err (Run (run_errors.Write e))) = ⊥
     -- the file is to be written, and a signal that the script has renamed or derived has the full
     -- name of a skipped variable
     AmendRunEnds (Err NameOfSkipped) = (is_some output ≡ true) × IsUnwritten

@@ -5,10 +5,13 @@ use Rattle.vcd_core.specs.declared.capture.TheConstants.{SIGNAL_LIMIT}
 use Rattle.vcd_core.specs.Contents.{Contents}
 use Rattle.vcd_core.specs.Devices.{DeviceEnd, HasText, IsUntouched}
 use Rattle.vcd_text.specs.Meaning.{FileMeans}
+use Rattle.vcd_text.specs.WriteEnds.{TookBefore}
+use Rattle.vcd_text.specs.declared.fault.WriteError.{WriteError}
 use Rattle.vcd_copy.specs.Pieces.{Piece}
 use Rattle.vcd_copy.specs.Marks.{IsMarkedFile}
 use Rattle.vcd_copy.specs.MarkText.{mark_piece}
 use Rattle.vcd_copy.specs.declared.marking.head.MarkHead.{MarkHead}
+use Rattle.vcd_script.specs.declared.running.run_error.RunError.TheVariants as run_errors
 use Rattle.vcd_script.specs.declared.running.run_error.Summary.{Summary}
 use Rattle.vcd_script.specs.Script.{script_lines}
 use Rattle.vcd_script.specs.Run.{RunOutcome}
@@ -16,7 +19,7 @@ use Rattle.vcd_amend_run.specs.declared.running.AmendRunError.{AmendRunError}
 use Rattle.vcd_amend_run.specs.AmendRun.{IsAmendRun}
 use Rattle.vcd_amend_run.specs.AmendRunEnds.{PassEnds, AllShow, IsShortFile, CanBeWritten}
 use Rattle.vcd_amend_run.specs.AmendRunEnds.{AmendRunEnds, ForAmendRun}
-use Rattle.vcd_amend_run.specs.declared.running.AmendRunError.TheVariants.{LineRefused}
+use Rattle.vcd_amend_run.specs.declared.running.AmendRunError.TheVariants.{Run, LineRefused}
 use Rattle.vcd_amend_run.specs.declared.running.RunOptions.{RunOptions}
 use Rattle.vcd_amend_run.specs.EditsInForce.{lines_in_force}
 
@@ -67,9 +70,17 @@ module _ (o : RunOptions) (passes : PassEnds) (script replies : DeviceEnd) where
     pub run : ForAmendRun o.depth passes script replies (Some out)
         (λ written. HasText replies (concat written.replies) × (written.refused ≢ 0))
 
-  -- how amending a file ends: as it ends without options, but for the mark in the output, and if a
-  -- line is refused
+  -- all replies are written, and before this fault a counted prefix of some text; if every pass
+  -- shows one file, and the script its bytes, a prefix of the amended file with the mark
+  pub record IsWrittenInPart (out : DeviceEnd) (e : WriteError) : Type 0 where
+    pub some : (text : List ℕ) × TookBefore text out.before out.after out.has_failed e
+    pub run : ForMarkedRun (λ written. HasText replies (concat written.replies)
+        × TookBefore written.output out.before out.after out.has_failed e)
+
+  -- how amending a file ends: as it ends without options, but for the mark in the output, and if
+  -- this can't be written, or a line is refused
   abbrev pub MarkedRunEnds : (output : Option DeviceEnd) → Result Summary AmendRunError → Type 0
   MarkedRunEnds (Some out) (Ok summary) = IsWrittenMarked out summary
+  MarkedRunEnds (Some out) (Err (Run (run_errors.Write e))) = IsWrittenInPart out e
   MarkedRunEnds (Some out) (Err LineRefused) = IsNothingWritten out
   MarkedRunEnds output result = AmendRunEnds o.depth passes script replies output result

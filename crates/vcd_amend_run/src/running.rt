@@ -7,8 +7,7 @@ ghost use Rattle.std.specs.Io.KnownBytes.{Appends};
 ghost use Rattle.vcd_core.specs.CaptureContents.{contents};
 ghost use Rattle.vcd_core.specs.Devices.{device_end, HasPrefix};
 ghost use Rattle.vcd_core.specs.Sound.{IsSound};
-ghost use Rattle.vcd_copy.specs.CopyEnds.{CopyFails};
-ghost use Rattle.vcd_copy.specs.Marks.{IsMarkedFile};
+ghost use Rattle.vcd_copy.specs.CopyEnds.{CopyFails, TookFirst};
 ghost use Rattle.vcd_copy.specs.MarkText.{piece_of_mark};
 ghost use Rattle.vcd_text.specs.declared.reading.TheConstants.{LONG_FILE_LIMIT};
 ghost use Rattle.vcd_journal.specs.Machine.{initial_machine};
@@ -20,7 +19,6 @@ ghost use Rattle.vcd_script.specs.RunEnds.{ForOutput, IsOutputFlushed};
 ghost use Rattle.vcd_script.specs.LineRunEnds.{RunsLines};
 ghost use Rattle.vcd_script.specs.declared.running.run_error.RunError.TheVariants as run_errors;
 ghost use Rattle.vcd_script.specs.declared.running.script_input.TheConstants.{SCRIPT_LIMIT};
-ghost use Rattle.vcd_amend.specs.Amendment.{Amendment as AmendmentContents};
 ghost use Rattle.vcd_amend_run.specs.AmendRunEnds.{pass_ends, AreReady};
 ghost use Rattle.vcd_amend.specs.AmendedMeaning.{AreApart};
 ghost use Rattle.vcd_amend.specs.AmendmentContents.{amendment_contents};
@@ -29,7 +27,6 @@ ghost use Rattle.vcd_amend_run.specs.EditsInForce.{lines_in_force};
 ghost use Rattle.vcd_amend_run.specs.MarkedRun.{MarkedRunEnds, mark_with};
 ghost use Rattle.vcd_amend.specs.KnownSignals.{IsAmendmentFor};
 ghost use Rattle.vcd_amend.specs.DeclaredVariables.{declarations_of, HaveSizesOf};
-ghost use Rattle.vcd_amend.specs.RetimedCopy.{IsAmendedAfterCuts, is_cut_by};
 ghost use Rattle.vcd_amend_run.specs.TakenRemarks.{TakesRemarks};
 ghost use Rattle.vcd_amend_run.specs.inside.CaptureAfterCuts.{capture_after_cuts};
 ghost use Rattle.vcd_amend_run.specs.inside.Running.{RefusesPlan, IsLaterCapture, ShowUpTo};
@@ -38,6 +35,7 @@ ghost use Rattle.vcd_amend_run.specs.inside.Running.{IsEdited, IsDryRun, HasEdit
 ghost use Rattle.vcd_amend_run.specs.inside.Running.{EndsBeforeReplies, EndsBeforeCopy, StopsInRun};
 ghost use Rattle.vcd_amend_run.specs.inside.Running.{error_of_hearing, error_of_copy};
 ghost use Rattle.vcd_amend_run.specs.inside.Running.{TakesLineRemarks, TakesOutputRemarks};
+ghost use Rattle.vcd_amend_run.specs.inside.Running.{IsAmendedFor};
 ghost use Rattle.vcd_amend_run.specs.declared.running.AmendRunError.TheVariants as errors;
 
 use crate::after_cuts::after_cuts;
@@ -472,14 +470,10 @@ fn copy_amended<R: Source, Q: Sink, W: Sink>(
         (declarations_of edited.declared.items) }
     requires come { IsLaterCapture (contents edited.first) edited.origins.items
         edited.session.now }
-    ensures amended { OnOk result (IfSome (R.coming reader.old) (λ file. (a : AmendmentContents)
-        × IsAmendmentFor (declarations_of edited.declared.items)
-        (capture_after_cuts (contents edited.first) edited.cuts.items).signals
-        edited.origins.items edited.session.now.signals a
-        × (marked : List ℕ)
-        × IsMarkedFile SIGNAL_LIMIT (mark_with head.entry edited.edit_lines.items) file marked
-        × (text : List ℕ)
-        × IsAmendedAfterCuts SIGNAL_LIMIT (is_cut_by edited.cuts.items) a marked text
+    ensures amended { OnOk result (IfSome (R.coming reader.old) (λ file. (text : List ℕ)
+        × IsAmendedFor (declarations_of edited.declared.items) (contents edited.first)
+        edited.origins.items edited.cuts.items edited.session.now
+        (mark_with head.entry edited.edit_lines.items) file text
         × Appends (W.taken out.old) (W.taken out.new) text)) }
     ensures not_failed { OnOk result (W.has_failed out.new ≡ false) }
     ensures flushed { OnOk result (W.is_flushed out.new ≡ true) }
@@ -489,6 +483,11 @@ fn copy_amended<R: Source, Q: Sink, W: Sink>(
     ensures fails { IfErr result (CopyFails SIGNAL_LIMIT LONG_FILE_LIMIT (R.coming reader.old)
         (R.coming reader.new) (R.has_failed reader.new) (W.taken out.old) (W.taken out.new)
         (W.has_failed out.new)) }
+    ensures begun { IfErr result (TookFirst SIGNAL_LIMIT
+        (IsAmendedFor (declarations_of edited.declared.items) (contents edited.first)
+        edited.origins.items edited.cuts.items edited.session.now
+        (mark_with head.entry edited.edit_lines.items)) (R.coming reader.old) (W.taken out.old)
+        (W.taken out.new) (W.has_failed out.new)) }
 {
     let Edited {
         declared,

@@ -4,6 +4,8 @@ use Rattle.vcd_copy.specs.declared.copying.copy_error.CopyError.{CopyError}
 use Rattle.vcd_copy.specs.declared.copying.copy_error.CopyError.TheVariants as copy_errors
 use Rattle.vcd_text.specs.declared.fault.Fault.TheVariants as faults
 use Rattle.vcd_text.specs.declared.fault.ReadError.{ReadError}
+use Rattle.vcd_text.specs.Words.{words_of}
+use Rattle.vcd_text.specs.Grammar.{ParseState, Accepts}
 use Rattle.vcd_text.specs.Refusals.{IsRefusal}
 use Rattle.vcd_text.specs.WriteEnds.{TookBefore}
 
@@ -23,3 +25,13 @@ CopyFails limit byte_limit coming left failed before after writer_failed (copy_e
     ReadFails limit byte_limit coming left failed e
 CopyFails limit byte_limit coming left failed before after writer_failed (copy_errors.Write e) =
     IsFalse failed × (text : List ℕ) × TookBefore text before after writer_failed e
+
+-- what a writer took that has failed: of an accepted file a counted prefix of the copy
+abbrev pub TookFirst : (limit : ℕ) → (is_copy : (file text : List ℕ) → Type 0)
+    → (coming : Option (List ℕ)) → (before after : Option (List ℕ)) → (writer_failed : Bool)
+    → CopyError → Type 0
+TookFirst limit is_copy coming before after writer_failed (copy_errors.Read e) = Unit {0}
+TookFirst limit is_copy coming before after writer_failed (copy_errors.Write e) =
+    IsTrue writer_failed → IfSome coming (λ file. (s : ParseState)
+    → Accepts limit (words_of file) s → (text : List ℕ) × is_copy file text
+    × TookBefore text before after writer_failed e)

@@ -1,5 +1,6 @@
 -- The definitions of copies, pieces and marks.
 pub mod Pieces
+pub mod Ticks
 pub mod CutLaws
 pub mod Copied
 pub mod VariableWords

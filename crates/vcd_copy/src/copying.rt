@@ -6,8 +6,8 @@ ghost use Rattle.std.specs.Prelude.{OnOk, IsOk, IfErr, IfSome};
 ghost use Rattle.std.specs.Io.KnownBytes.{Appends, Keeps, IsAtEnd};
 ghost use Rattle.vcd_text.specs.Refusals.{IsRefusal};
 ghost use Rattle.vcd_copy.specs.Copied.{IsCopy, IsTold};
-ghost use Rattle.vcd_copy.specs.CopyEnds.{CopyFails, ReadFails};
-ghost use Rattle.vcd_copy.specs.inside.Copying.{TookCopy};
+ghost use Rattle.vcd_copy.specs.CopyEnds.{CopyFails, ReadFails, TookFirst};
+ghost use Rattle.vcd_copy.specs.inside.Copying.{TookCopy, TookBeginning};
 ghost use Rattle.vcd_text.specs.EmittedText.{EmitsMore};
 ghost use Rattle.vcd_copy.specs.declared.copying.copy_error.CopyError.TheVariants as copy_errors;
 ghost use Rattle.vcd_text.specs.declared.fault.WriteError.TheVariants.{WriteFault};
@@ -40,8 +40,7 @@ use vcd_text::{
 /// The file is read as `read_part` reads it, with no signal: the grammar, the first fault and its
 /// line are the same. A file has at most `LONG_FILE_LIMIT` bytes and `limit` kept variables. At a
 /// fault of the file, what the writer took is of no use. At `WriteFault` the writer has failed, and
-/// took exactly `written` bytes. Tests show that these are the first bytes of the copy; no clause
-/// says so.
+/// took exactly `written` bytes: of an accepted file the first ones of the copy.
 ///
 /// Memory: a chunk of at most 4,096 bytes, the longest word, the longest `$var`, the longest white
 /// space, and what `read_part` holds of the declarations; nothing of the changes.
@@ -72,6 +71,9 @@ pub fn copy<R: Source, W: Sink, A: Amender<W>>(
     ensures taken { (text : List ℕ) × Appends (W.taken writer.old) (W.taken writer.new) text }
     ensures fails { IfErr result (CopyFails limit LONG_FILE_LIMIT (R.coming reader.old)
         (R.coming reader.new) (R.has_failed reader.new) (W.taken writer.old) (W.taken writer.new)
+        (W.has_failed writer.new)) }
+    ensures begun { IfErr result (TookFirst limit (IsCopy limit (A.rules (A.given amender.old)))
+        (R.coming reader.old) (W.taken writer.old) (W.taken writer.new)
         (W.has_failed writer.new)) }
 {
     let unsent = empty_buffer(alloc)?;
@@ -130,6 +132,8 @@ fn copy_all<R: Source, W: Sink, A: Amender<W>>(
         A.is_done amender.new ≡ false → IfSome (R.coming reader.old)
         (λ file. (length file ≤ LONG_FILE_LIMIT)
         × TookCopy W.Sink limit (A.rules (A.given amender.old)) output.old output.new file)) }
+    ensures begun { OnOk result (IfSome (R.coming reader.old) (TookBeginning W.Sink limit
+        (A.rules (A.given amender.old)) output.old output.new)) }
     ensures told { OnOk result (W.has_failed output.new.writer.now ≡ false →
         IfSome (R.coming reader.old)
         (IsTold limit (A.is_done amender.new) (λ pieces. A.has_seen amender.new pieces
@@ -161,6 +165,8 @@ fn copy_within<R: Source, W: Sink, A: Amender<W>>(
     ensures copied { OnOk result (W.has_failed output.new.writer.now ≡ false →
         A.is_done amender.new ≡ false → IfSome (R.coming reader.old) (λ file. (length file ≤ most)
         × TookCopy W.Sink limit (A.rules (A.given amender.old)) output.old output.new file)) }
+    ensures begun { OnOk result (IfSome (R.coming reader.old) (TookBeginning W.Sink limit
+        (A.rules (A.given amender.old)) output.old output.new)) }
     ensures told { OnOk result (W.has_failed output.new.writer.now ≡ false →
         IfSome (R.coming reader.old)
         (IsTold limit (A.is_done amender.new) (λ pieces. A.has_seen amender.new pieces

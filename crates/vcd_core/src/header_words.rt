@@ -98,6 +98,7 @@ impl HeaderWords {
     }
 
     /// The text, in which each word comes after a space.
+    #[tactic(auto, using(crate::proofs::header_words::TextOfWords::text_is))]
     pub fn text(&self) -> &[u8]
         ensures { result.now ≡ flat_map (λ word. 32 ∷ word) self.now }
     {

@@ -6,6 +6,7 @@ ghost use Rattle.vcd_core.specs.Outline.{OutlineIsSound};
 
 /// Two waves of one width are equal lists if they have the same value at each tick 0 to `end`
 /// and no change past `end`. So equality tick by tick is equality of every change.
+#[tactic(auto, using(crate::proofs::shared::Waves::waves_equal))]
 pub fn same_values_same_changes()
     ensures { SameValuesSameChanges }
 {}
@@ -37,6 +38,7 @@ pub fn splice_back_is_allowed()
 {}
 
 /// A sound capture is sound without its changes.
+#[tactic(auto, using(crate::proofs::shared::Outlines::outline_is_sound))]
 pub fn outline_is_sound()
     ensures { OutlineIsSound }
 {}

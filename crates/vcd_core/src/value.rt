@@ -65,6 +65,7 @@ impl Value {
     /// first. Letters of the row from bit `width` on are ignored.
     ///
     /// It takes a step for each 64 bits.
+    #[tactic(auto, unfolding(crate::specs::inside::Planes::view_value))]
     pub fn from_blocks(width: u64, blocks: &[LetterBlock]) -> Value
         requires least { 1 ≤ width }
         requires most { width ≤ WIDTH_LIMIT }
@@ -79,6 +80,7 @@ impl Value {
 
     /// The value of `width` bits, at most 64, whose letters are in a block, bit 0 the lowest.
     /// Letters of the block from bit `width` on are ignored.
+    #[tactic(auto, unfolding(crate::specs::inside::Planes::view_value))]
     pub(crate) fn from_block(width: u64, block: LetterBlock) -> Value
         requires least { 1 ≤ width }
         requires most { width ≤ 64 }

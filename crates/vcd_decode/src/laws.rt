@@ -12,6 +12,7 @@ ghost use Rattle.vcd_decode.specs.Laws.{SpiLinesAreApart, I2cMessagesAreApart};
 /// holds for every setup. The line is 1 just before each frame, and need not idle longer between
 /// them. Edges after the frame's start may be late by half a bit, or early by less than that: a bit
 /// has to be there in its middle alone.
+#[tactic(auto, using(crate::proofs::laws::sent::Uart::sent_found))]
 pub fn uart_frames_are_found()
     ensures { UartFramesAreFound }
 {}
@@ -36,6 +37,7 @@ pub fn spi_selections_and_lines_are_apart()
 
 /// What is found of an I2C bus falls in two parts at each STOP. So several messages are found one
 /// after the other: a START after a STOP is no repeated one, and no address outlives a STOP.
+#[tactic(auto, using(crate::proofs::laws::ApartLines::messages_apart))]
 pub fn i2c_messages_are_apart()
     ensures { I2cMessagesAreApart }
 {}
@@ -44,6 +46,7 @@ pub fn i2c_messages_are_apart()
 /// STOP, each address with its direction, each data byte, and each acknowledge. Addresses have
 /// seven bits or ten. This holds at any tick distances that keep SDA still from a tick before SCL
 /// rises to a tick after it falls.
+#[tactic(auto, using(crate::proofs::laws::sent::I2c::message_found))]
 pub fn i2c_messages_are_found()
     ensures { I2cMessagesAreFound }
 {}

@@ -160,6 +160,7 @@ impl Uart {
     }
 
     /// The number of ticks from the beginning of a frame to the sample of a bit.
+    #[tactic(auto, unfolding(crate::specs::Uart::sample_offset))]
     pub(crate) fn sample_offset(&self, bit: usize) -> u64
         requires { bit ≤ FRAME_BITS }
         ensures ticks { result ≡ sample_offset self.now bit }

@@ -75,7 +75,8 @@ impl<'a, R: Runtime<File = File> + AllocGlobal> SafeFile<'a, R> {
     /// was.
     pub fn commit(self) -> Result<InPlace, OutputFault>
         requires { ⟦<SafeFile<'a, R> as Sink>⟧.is_flushed self ≡ true }
-        ensures { IfErr result (λ f. (e : Error) × IsLateError e × (f ≡ fault_of e)) }
+        ensures { IfErr result (λ f. (e : Error) × IsLateError self.entry.sink.writer.capture e
+            × (f ≡ fault_of e)) }
     {
         let SafeFile { rt, path, sink, .. } = self;
         match sink.into_inner().put_in_place() {

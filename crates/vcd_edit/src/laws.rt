@@ -47,6 +47,7 @@ pub fn cut_keeps_other_ticks()
 {}
 
 /// Of two cuts that share no tick either may come first, if the later ticks are counted anew.
+#[tactic(auto, using(crate::proofs::shared::EffectLaws::cuts_commute))]
 pub fn cuts_commute()
     ensures { CutsCommute }
 {}
@@ -62,11 +63,13 @@ pub fn shift_fills_gaps()
 {}
 
 /// A forced signal has the value inside the range, and its own values outside.
+#[tactic(auto, using(crate::proofs::shared::EffectLaws::force_is_local))]
 pub fn force_is_local()
     ensures { ForceIsLocal }
 {}
 
 /// The last of two forces of one range counts.
+#[tactic(auto, using(crate::proofs::shared::EffectLaws::last_force_counts))]
 pub fn last_force_counts()
     ensures { LastForceCounts }
 {}
@@ -77,11 +80,13 @@ pub fn derived_beside_first_operand()
 {}
 
 /// Bit 0 of a signal of one bit is its wave.
+#[tactic(auto, using(crate::proofs::shared::EffectLaws::bit_of_one_bit))]
 pub fn bit_of_one_bit()
     ensures { BitOfOneBit }
 {}
 
 /// A signal that gets another name, and then its old one, is as it was.
+#[tactic(auto, using(crate::proofs::shared::EffectLaws::rename_and_back))]
 pub fn rename_and_back()
     ensures { RenameAndBack }
 {}

@@ -4,3 +4,4 @@ pub mod EmptyStamps
 pub mod LeftOutByKeep
 pub mod LeftOutEvents
 pub mod StillShown
+pub mod WrongParts

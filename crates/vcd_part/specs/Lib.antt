@@ -4,6 +4,8 @@ pub mod Times
 pub mod Requests
 pub mod PartPieces
 pub mod WrittenPart
+pub mod StandsInPart
 pub mod PartLaws
+pub mod PartOfFile
 pub mod PartEnds
 pub mod inside

@@ -4,12 +4,13 @@ ghost use Rattle.std.specs.Prelude.{◌≡◌, ◌≤◌, ◌<◌, ℕ, List, tr
 ghost use Rattle.std.specs.Prelude.{is_some, length, Some, option_map, None};
 ghost use Rattle.std.specs.Io.KnownBytes.{Appends, IsAtEnd};
 ghost use Rattle.vcd_copy.specs.Copied.{IsCopy, IsTold};
-ghost use Rattle.vcd_copy.specs.CopyEnds.{CopyFails};
+ghost use Rattle.vcd_copy.specs.CopyEnds.{CopyFails, TookFirst};
 ghost use Rattle.vcd_text.specs.declared.reading.TheConstants.{LONG_FILE_LIMIT};
 ghost use Rattle.vcd_part.specs.inside.PartCopy.{part_rules};
 ghost use Rattle.vcd_part.specs.inside.PartAmender.{HasSeen, OutcomeOf};
 ghost use Rattle.vcd_core.specs.Devices.{device_end};
-ghost use Rattle.vcd_part.specs.PartEnds.{PartEnds};
+ghost use Rattle.vcd_part.specs.PartEnds.{PartEnds, IsPartText};
+ghost use Rattle.vcd_part.specs.PartOfFile.{IsPartOfFile};
 ghost use Rattle.vcd_part.specs.declared.part.PartError.TheVariants as errors;
 
 use crate::amender::PartAmender;
@@ -51,9 +52,10 @@ impl From<CopyError> for PartError<'_> {
 /// A stamp after tick 0 goes if another one follows it at once. A `$comment` before the end of the
 /// declarations says which part it is. The writer is flushed once, after the last byte.
 ///
-/// The whole file is read and checked, unless its declarations already refuse the request. After an
-/// error what the writer took is of no use. A fault in the chunk in which the declarations end
-/// comes before a refusal.
+/// The whole file is read and checked, unless its declarations already refuse the request. At
+/// `WriteFault` the writer has failed, and took exactly `written` bytes: of an accepted file the
+/// first ones of the part. After any other error what the writer took is of no use. A fault in the
+/// chunk in which the declarations end comes before a refusal.
 ///
 /// Time: one pass over the file. Each name is compared with each pattern once, and the path of its
 /// scopes looked up. Memory: as of `copy`, some bytes for each code, its last change up to the
@@ -71,6 +73,9 @@ pub fn write_part<'a, R: Source, W: Sink>(
     ensures ends { PartEnds request.entry
         (device_end R.coming R.has_failed reader.old reader.new)
         (device_end W.taken W.has_failed writer.old writer.new) result }
+    ensures headline { OnOk result (IfSome (R.coming reader.old) (λ file. (text : List ℕ)
+        × IsPartOfFile request.entry file text
+        × Appends (W.taken writer.old) (W.taken writer.new) text)) }
     ensures flushed { OnOk result (W.is_flushed writer.new ≡ true) }
 {
     let amender = copy_part(alloc, reader, request, writer)?;
@@ -100,6 +105,9 @@ fn copy_part<'m, 'a, R: Source, W: Sink>(
     ensures flushed { OnOk result (W.is_flushed writer.new ≡ true) }
     ensures fails { IfErr result (CopyFails VARIABLE_LIMIT LONG_FILE_LIMIT (R.coming reader.old)
         (R.coming reader.new) (R.has_failed reader.new) (W.taken writer.old) (W.taken writer.new)
+        (W.has_failed writer.new)) }
+    ensures begun { IfErr result (TookFirst VARIABLE_LIMIT (IsPartText request.entry)
+        (R.coming reader.old) (W.taken writer.old) (W.taken writer.new)
         (W.has_failed writer.new)) }
 {
     let mut amender = PartAmender::new(alloc, request)?;

@@ -3,7 +3,6 @@ pub mod RemarksInTurn
 pub mod RunsLeft
 pub mod RunsOfDeglitch
 pub mod DeglitchFindings
-pub mod PulsesFound
 pub mod ChangesTakenOut
 pub mod AllRuns
 pub mod PulsesTakenOut

@@ -1,3 +1,4 @@
 -- Worked cases.
 pub mod EditFindings
+pub mod DecoderFindings
 pub mod NameRemarks

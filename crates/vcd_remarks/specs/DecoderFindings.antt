@@ -19,7 +19,7 @@ use Rattle.vcd_remarks.specs.declared.remarks.spi.DataKinds.{DataKinds}
 use Rattle.vcd_remarks.specs.declared.remarks.spi.TheConstants.{MOSI, MISO}
 use Rattle.vcd_remarks.specs.BusFindings.{cutting_conditions, stray_bits, open_start}
 use Rattle.vcd_remarks.specs.BusFindings.{has_joint_rise}
-use Rattle.vcd_remarks.specs.ClockRuns.{short_runs}
+use Rattle.vcd_remarks.specs.ClockRuns.{short_runs, short_beside}
 use Rattle.vcd_remarks.specs.Findings.{finding, finding_text}
 use Rattle.vcd_remarks.specs.FoundTicks.{ticks_where}
 use Rattle.vcd_remarks.specs.LostLines.{becomes_lost}
@@ -52,13 +52,12 @@ clk_findings end clk =
 -- of a data line of it
 abbrev pub data_findings : DataKinds → SpiSetup → (clk : SignalContents)
     → (cs : Option SignalContents) → (end : ℕ) → SignalContents → List Finding
-data_findings names u clk cs end line =
-    let chip = option_map bit_line cs in
-    finding names.lost (ticks_where (is_lost_in_selection u (bit_line clk)
-    (bit_line line) chip) end)
-    ∷ finding names.no_setup
-    (ticks_where (has_no_setup u (bit_line clk) (bit_line line) chip) end)
-    ∷ finding names.late (late_changes u (bit_line clk) (bit_line line) chip end) ∷ []
+data_findings names u clk cs end s =
+    let clock = bit_line clk in let line = bit_line s in let chip = option_map bit_line cs in
+    finding names.lost (ticks_where (is_lost_in_selection u clock line chip) end)
+    ∷ finding names.short (short_beside end clk s)
+    ∷ finding names.no_setup (ticks_where (has_no_setup u clock line chip) end)
+    ∷ finding names.late (late_changes u clock line chip end) ∷ []
 
 -- of its CS
 abbrev pub cs_findings : SpiSetup → (clk : SignalContents) → (end : ℕ) → SignalContents
@@ -71,14 +70,13 @@ cs_findings u clk end cs =
 -- of the lines of `i2c`
 abbrev pub bus_findings : (end : ℕ) → (scl sda : SignalContents) → List Finding
 bus_findings end scl sda =
-    let es = bus_events (bit_line scl) (bit_line sda) end in
-    finding kinds.SclLost (ticks_where (becomes_lost true (bit_line scl)) end)
-    ∷ finding kinds.SdaLost (ticks_where (becomes_lost true (bit_line sda)) end)
+    let clock = bit_line scl in let line = bit_line sda in let es = bus_events clock line end in
+    finding kinds.SclLost (ticks_where (becomes_lost true clock) end)
+    ∷ finding kinds.SdaLost (ticks_where (becomes_lost true line) end)
     ∷ finding kinds.BusCuts (cutting_conditions false 0 es)
     ∷ finding kinds.BusStray (stray_bits false 0 es)
     ∷ finding kinds.BusUnstopped (open_start [] es)
-    ∷ finding kinds.BusJointRises
-    (ticks_where (has_joint_rise (bit_line scl) (bit_line sda)) end) ∷ []
+    ∷ finding kinds.BusJointRises (ticks_where (has_joint_rise clock line) end) ∷ []
 
 -- the remarks on findings
 abbrev pub told : List Finding → List (List ℕ)

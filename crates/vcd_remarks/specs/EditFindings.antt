@@ -1,12 +1,12 @@
 -- What an edit takes out, moves or leaves of a signal, and may mislead. The project's own.
-use Rattle.std.specs.Prelude.{ℕ, ◌+◌, ◌-◌, ◌&&◌, nat_lt, nat_le, ℤ, int_lt, pos, ◌+ℤ◌, Bool, true}
+use Rattle.std.specs.Prelude.{ℕ, ◌-◌, ◌&&◌, nat_lt, nat_le, ℤ, int_lt, pos, ◌+ℤ◌, Bool, true}
 use Rattle.std.specs.Prelude.{false, not, if◌then◌else◌, List, [], ◌∷◌, map}
 use Rattle.std.specs.List.{filter, list_any}
 use Rattle.vcd_core.specs.declared.bit.Bit.{Bit}
 use Rattle.vcd_core.specs.declared.bit.Bit.TheVariants.{Z}
 use Rattle.vcd_core.specs.declared.wave.Change.{Change}
 use Rattle.vcd_core.specs.Value.{all_x, same_letters}
-use Rattle.vcd_core.specs.Contents.{Contents, SignalContents, signal_at}
+use Rattle.vcd_core.specs.Contents.{Contents, signal_at}
 use Rattle.vcd_edit.specs.declared.edit.Edit.{Edit}
 use Rattle.vcd_edit.specs.declared.edit.Edit.TheVariants.{Invert, Shift, Deglitch, Force}
 use Rattle.vcd_remarks.specs.declared.findings.finding.Finding.{Finding}

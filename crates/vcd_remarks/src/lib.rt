@@ -23,4 +23,4 @@ pub use laws::{
     remarks_are_true, remarks_on_hollow_captures, session_remarks_are_run, spi_samples_are_of_words,
 };
 pub use line_remarks::run_remarked_lines;
-pub use remarks::{append_more, append_name, remarks_on};
+pub use remarks::{append_more, append_name};

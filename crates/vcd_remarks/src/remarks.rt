@@ -14,7 +14,6 @@ mod decoders;
 mod deglitching;
 mod edits;
 mod names;
-mod pulses;
 mod runs;
 mod spi;
 mod uart_line;
@@ -24,7 +23,7 @@ use decoders::{append_i2c_remarks, append_uart_remarks};
 use edits::append_edit_remarks;
 pub use names::append_name;
 use names::append_name_remarks;
-use spi::append_spi_remarks;
+use spi::{SpiBus, append_spi_remarks};
 use std::alloc::Global;
 use vcd_core::Capture;
 use vcd_journal::Step;
@@ -81,7 +80,16 @@ fn append_remarks(
             miso,
             cs,
             setup,
-        } => append_spi_remarks(text, capture, number, *clk, *mosi, *miso, *cs, setup),
+        } => {
+            let bus = SpiBus {
+                clk: *clk,
+                mosi: *mosi,
+                miso: *miso,
+                cs: *cs,
+                setup: *setup,
+            };
+            append_spi_remarks(text, capture, number, &bus)
+        }
         Command::I2c { scl, sda } => append_i2c_remarks(text, capture, number, *scl, *sda),
         Command::Nothing
         | Command::Step(_)

@@ -1,6 +1,7 @@
 //! An output that is in its place.
 
-ghost use Rattle.std.specs.Prelude.{◌≡◌, IfErr, IsSome};
+ghost use Rattle.std.specs.Prelude.{IfErr};
+ghost use Rattle.vcd_replace.specs.Errors.{IsChange};
 
 use crate::replace_error::ReplaceError;
 use crate::seen_file::SeenFile;
@@ -25,13 +26,13 @@ impl InPlace {
         files: &R,
         new: Unchanged<'_, R>,
     ) -> io::Result<InPlace> {
-        let (place, file) = new.into_synced().into_parts();
+        let (place, _file) = new.into_synced().into_parts();
         let Place {
             mut folder,
             target,
             ..
         } = place;
-        folder.rename_file(&file, &target)?;
+        folder.rename_file(&target)?;
         sync_folder(files, target.as_path());
         Ok(InPlace { _made: () })
     }
@@ -41,7 +42,7 @@ impl InPlace {
         files: &R,
         capture: Option<SeenFile<'_>>,
     ) -> Result<InPlace, ReplaceError>
-        ensures { IfErr result (λ e. (e ≡ ReplaceError.CaptureChanged) × IsSome capture.entry) }
+        ensures { IfErr result (IsChange capture.entry) }
     {
         refuse_replaced(files, capture)?;
         Ok(InPlace { _made: () })

@@ -2,8 +2,8 @@
 //!
 //! An [`OutputFile`] is written in a folder of its own beside its target. `put_in_place` syncs it,
 //! then looks at the capture for the last time, and then renames it: each step takes what only the
-//! one before it makes, and only the last one makes an [`InPlace`]. A [`SeenFile`] is what the
-//! capture was before it was read, by which a later look tells it from another file.
+//! one before it makes, and only then a new file is [`InPlace`]. A [`SeenFile`] is what the capture
+//! was before it was read, by which a later look tells it from another file.
 #![tactic(auto)]
 
 mod in_place;

@@ -75,7 +75,7 @@ impl<'a, R: Files<File = File> + AllocGlobal> OutputFile<'a, R> {
     /// of these fails, the file is removed and the target is as it was. A target that is written as
     /// it is has all bytes by then, and only the capture is looked at.
     pub fn put_in_place(self) -> Result<InPlace, ReplaceError>
-        ensures { IfErr result IsLateError }
+        ensures { IfErr result (IsLateError self.entry.capture) }
     {
         let OutputFile {
             files,
@@ -126,7 +126,7 @@ fn begin_over<'a, R: Files<File = File> + AllocGlobal>(
     }
     refuse_protected(rt, path, found)?;
     let target = real_path(rt, path)?;
-    create(rt, target, Some(old), inputs)
+    create(rt, path, target, Some(old), inputs)
 }
 
 /// Begins the output for a target that is not there. A link that leads nowhere is refused.
@@ -140,7 +140,8 @@ fn begin_new<'a, R: Files<File = File> + AllocGlobal>(
     if path.ends_with('/') || fs::symlink_metadata(rt, path).is_ok() {
         return Err(io::Error::from(ErrorKind::NotFound).into());
     }
-    create(rt, PathBuf::from_str(rt.alloc(), path)?, None, inputs)
+    let target = PathBuf::from_str(rt.alloc(), path)?;
+    create(rt, path, target, None, inputs)
 }
 
 /// Opens a target that is not replaced, to write to its end.
@@ -187,10 +188,11 @@ fn refuse_protected<R: Files>(files: &R, path: &str, found: &Metadata) -> Result
     }
 }
 
-/// Creates the file for a target in a folder of its own. No other user reads it before it is in its
-/// place, where it has the mode of the old one, or else that of any new file.
+/// Creates the file for the target of a path in a folder of its own. No other user reads it before
+/// it is in its place, where it has the mode of the old one, or else that of any new file.
 fn create<'a, R: Files<File = File> + AllocGlobal>(
     rt: &'a R,
+    path: &str,
     target: PathBuf,
     old: Option<OldFile>,
     inputs: Inputs<'a>,
@@ -207,6 +209,7 @@ fn create<'a, R: Files<File = File> + AllocGlobal>(
         place: Some(Place {
             folder,
             target,
+            has_capture_path: inputs.capture.is_some_and(|capture| capture.path() == path),
             old,
         }),
     })

@@ -72,14 +72,18 @@ impl<'a, R: Files<File = File> + AllocGlobal> OwnFolder<'a, R> {
         Ok(file)
     }
 
-    /// Gives its file, which is open as this one, another path.
-    pub fn rename_file(&mut self, file: &File, target: &PathBuf) -> io::Result<()> {
-        if !is_at(self.files, file, &self.file)? {
-            return Err(ErrorKind::NotFound.into());
-        }
+    /// Gives its file another path.
+    pub fn rename_file(&mut self, target: &PathBuf) -> io::Result<()> {
         fs::rename(self.files, &self.file, target)?;
         self.has_file = false;
         Ok(())
+    }
+}
+
+impl<R: Files> OwnFolder<'_, R> {
+    /// Whether this open file is its file.
+    pub fn has(&self, file: &File) -> io::Result<bool> {
+        is_at(self.files, file, &self.file)
     }
 }
 

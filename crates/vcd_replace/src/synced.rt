@@ -4,6 +4,7 @@ use crate::own_folder::OwnFolder;
 use crate::seen_file::FileState;
 use std::fs::{File, Metadata, Permissions};
 use std::io;
+use std::io::ErrorKind;
 use std::os::unix::fs::{MetadataExt, PermissionsExt, fchown};
 use std::path::PathBuf;
 use std::rt::Files;
@@ -16,6 +17,8 @@ const PERMISSIONS: u32 = 0o777;
 pub struct Place<'a, R: Files> {
     pub folder: OwnFolder<'a, R>,
     pub target: PathBuf,
+    /// Whether the output has the capture's path, so that its target is to be the capture.
+    pub has_capture_path: bool,
     pub old: Option<OldFile>,
 }
 
@@ -55,6 +58,10 @@ impl<'a, R: Files> Synced<'a, R> {
             make_like(&file, old)?;
         }
         file.sync_all()?;
+        // from here on only the look at the capture comes before the rename
+        if !place.folder.has(&file)? {
+            return Err(ErrorKind::NotFound.into());
+        }
         Ok(Synced { place, file })
     }
 

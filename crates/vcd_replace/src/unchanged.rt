@@ -1,6 +1,7 @@
 //! The last look at the capture before a new file takes the place of its target.
 
-ghost use Rattle.std.specs.Prelude.{◌≡◌, IfErr, IsSome};
+ghost use Rattle.std.specs.Prelude.{IfErr};
+ghost use Rattle.vcd_replace.specs.Errors.{IsChange};
 
 use crate::replace_error::ReplaceError;
 use crate::seen_file::{SeenFile, is_other};
@@ -22,7 +23,7 @@ impl<'a, R: Files> Unchanged<'a, R> {
         new: Synced<'a, R>,
         capture: Option<SeenFile<'_>>,
     ) -> Result<Unchanged<'a, R>, ReplaceError>
-        ensures { IfErr result (λ e. (e ≡ ReplaceError.CaptureChanged) × IsSome capture.entry) }
+        ensures { IfErr result (IsChange capture.entry) }
     {
         refuse_replaced(files, capture)?;
         if let Some(capture) = capture {
@@ -43,7 +44,7 @@ pub fn refuse_replaced<R: Files>(
     files: &R,
     capture: Option<SeenFile<'_>>,
 ) -> Result<(), ReplaceError>
-    ensures { IfErr result (λ e. (e ≡ ReplaceError.CaptureChanged) × IsSome capture.entry) }
+    ensures { IfErr result (IsChange capture.entry) }
 {
     match capture {
         Some(capture) if capture.is_replaced(files) => Err(ReplaceError::CaptureChanged),
@@ -51,10 +52,11 @@ pub fn refuse_replaced<R: Files>(
     }
 }
 
-/// Whether the target was this capture, and is another file by now.
+/// Whether the target was this capture, and is another file by now. One that has the capture's path
+/// must have been the capture, or a link there led elsewhere for a while.
 fn has_lost<R: Files>(files: &R, place: &Place<'_, R>, capture: &SeenFile<'_>) -> bool {
     match &place.old {
         Some(old) if capture.was(&old.state) => is_other(files, place.target.as_str(), &old.state),
-        _ => false,
+        _ => place.has_capture_path,
     }
 }

@@ -7,11 +7,7 @@
 #![tactic(auto)]
 
 #[cfg(test)]
-mod amending;
-#[cfg(test)]
 mod captures;
-#[cfg(test)]
-mod copying;
 #[cfg(test)]
 mod devices;
 #[cfg(test)]

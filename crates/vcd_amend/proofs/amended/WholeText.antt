@@ -20,6 +20,7 @@ use Rattle.vcd_text.proofs.read_back.Words.{is_unbroken, is_spelled}
 use Rattle.vcd_copy.specs.Pieces.{Piece, IsCut, piece_bytes, state_of_pieces}
 use Rattle.vcd_copy.proofs.pieces.Bytes.{texts, texts_are, joined_words}
 use Rattle.vcd_copy.proofs.pieces.Cuts.{EndsInWord, ends_after, word_ends, begins_in_word, spelling_some, IsTight}
+use Rattle.vcd_copy.proofs.shared.JoinedWords.{joined_tight}
 use Rattle.vcd_amend.specs.Amendment.{Amendment}
 use Rattle.vcd_amend.specs.AmendedItems.{ItemFate, stands, is_left_out, is_exchanged, item_fate, inserted_items}
 use Rattle.vcd_amend.specs.AmendedItems.{items_due_at, still_none_yet, items_in_place, amended_items}
@@ -38,28 +39,6 @@ use Rattle.vcd_amend.proofs.amended.OtherWords.{HasSpace, SpellsItem, HasSomeSpa
 
 abbrev Ends : List ℕ → Type 0
 Ends bytes = suffix_len is_white_space bytes ≡ 0
-
--- ---- words with a space between them
-
-joined_end : (w : List ℕ) (ws : List (List ℕ)) → list_all is_unbroken (w ∷ ws) ≡ true
-    → EndsInWord (join_with_byte 32 (w ∷ ws))
-joined_end w [] unbroken = word_ends w (and_parts (is_unbroken w) true unbroken).0
-joined_end w (v ∷ ws) unbroken = ends_after w (32 ∷ join_with_byte 32 (v ∷ ws)) (ends_after (32 ∷ [])
-    (join_with_byte 32 (v ∷ ws)) (joined_end v ws (and_parts (is_unbroken w) (list_all is_unbroken (v ∷ ws))
-    unbroken).1))
-
-joined_begin : (w : List ℕ) (ws : List (List ℕ)) → is_unbroken w ≡ true
-    → prefix_len is_white_space (join_with_byte 32 (w ∷ ws)) ≡ 0
-joined_begin w [] unbroken = ap (prefix_len is_white_space) (sym (append-nil w)) ∙ begins_in_word w [] unbroken
-joined_begin w (v ∷ ws) unbroken = begins_in_word w (32 ∷ join_with_byte 32 (v ∷ ws)) unbroken
-
-joined_tight : (ws : List (List ℕ)) → 0 < length ws → list_all is_unbroken ws ≡ true
-    → (prefix_len is_white_space (join_with_byte 32 ws) ≡ 0) × Ends (join_with_byte 32 ws)
-joined_tight [] some unbroken = absurd (omega (arith, some))
-joined_tight (w ∷ ws) some unbroken = (
-  joined_begin w ws (and_parts (is_unbroken w) (list_all is_unbroken ws) unbroken).0,
-  (joined_end w ws unbroken).ends,
-)
 
 -- ---- words in the place of others
 

@@ -13,7 +13,8 @@ use Rattle.vcd_text.specs.Items.{Item, stamp}
 use Rattle.vcd_text.specs.Grammar.{ParseState, Allows, AllowsAll, state_after_item}
 use Rattle.vcd_copy.specs.Pieces.{Piece}
 use Rattle.vcd_amend.specs.Retimed.{ChangeKey, change_key, counts_with}
-use Rattle.vcd_amend.specs.RetimedLaws.{tick_after_item, changes_at_ticks, is_key_of, last_ones}
+use Rattle.vcd_copy.specs.Ticks.{tick_after_item}
+use Rattle.vcd_amend.specs.RetimedLaws.{changes_at_ticks, is_key_of, last_ones}
 use Rattle.vcd_amend.proofs.retimed.Ticks.{items_of, stamp_ticks}
 use Rattle.vcd_amend.proofs.retimed.Kinds.{IsChange, IsStill, kind_of, is_stamp, is_change, is_still, change_of_key}
 use Rattle.vcd_amend.proofs.retimed.Kinds.{count_together, key_itself, together_first, together_second}

@@ -6,20 +6,10 @@ use Rattle.vcd_text.specs.Items.{timescale, scope, upscope, dump_word, other}
 use Rattle.vcd_text.specs.Grammar.{ParseState, initial_state, state_after, state_after_item}
 use Rattle.vcd_copy.specs.Pieces.{Piece, state_of_pieces}
 use Rattle.vcd_copy.specs.Copied.{CopyRules, may_be_amended, copied_piece, copied_pieces}
+use Rattle.vcd_copy.proofs.shared.CopiedPieces.{copied_more}
 use Rattle.vcd_amend.specs.Retimed.{retimed_pieces}
 use Rattle.vcd_amend.specs.RetimedCopy.{pieces_of_step, held_of_step, pieces_so_far, held_after, retimed_rules}
 use Rattle.vcd_amend.specs.RetimedCopy.{RetimedCopyIsCopyOfRetimed}
-
--- the copy of pieces and of others after them
-pub copied_more : (r : CopyRules) (before ps qs : List Piece)
-    → copied_pieces r before (ps ++ qs) ≡ copied_pieces r before ps ++ copied_pieces r (before ++ ps) qs
-unfolding copied_pieces
-copied_more r before [] qs = ap (λ l. copied_pieces r l qs) (sym (append-nil before))
-copied_more r before (p ∷ ps) qs =
-    ap (λ l. copied_piece r before p ++ l) (copied_more r (before ++ p ∷ []) ps qs
-    ∙ ap (λ l. copied_pieces r (before ++ p ∷ []) ps ++ copied_pieces r l qs) (append_assoc before (p ∷ []) ps))
-    ∙ sym (append_assoc (copied_piece r before p) (copied_pieces r (before ++ p ∷ []) ps)
-    (copied_pieces r (before ++ p ∷ ps) qs))
 
 -- the state after one piece more
 pub state_more : (s : ParseState) (before : List Piece) (p : Piece)

@@ -14,7 +14,8 @@ use Rattle.std.specs.List.{list_any}
 use Rattle.vcd_amend.specs.Retimed.{ChangeKey, digits_key, text_key, change_key, code_of_key}
 use Rattle.vcd_amend.specs.Retimed.{counts_with, held_with, is_past, has_kept_variable}
 use Rattle.vcd_amend.specs.Retimed.{released_pieces, retimed_stamp, retimed_fate, pieces_in_place, retimed_pieces}
-use Rattle.vcd_amend.specs.RetimedLaws.{tick_after_item, is_neither}
+use Rattle.vcd_copy.specs.Ticks.{tick_after_item}
+use Rattle.vcd_amend.specs.RetimedLaws.{is_neither}
 use Rattle.vcd_amend.proofs.amended.OneCode.{same_bytes, bytes_turned, itself}
 
 -- ---- keys

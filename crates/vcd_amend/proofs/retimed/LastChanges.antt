@@ -16,7 +16,8 @@ use Rattle.vcd_copy.specs.Pieces.{Piece, state_of_pieces}
 use Rattle.vcd_amend.specs.Retimed.{new_tick, AreOldTicks, ChangeKey, change_key, counts_with}
 use Rattle.vcd_amend.specs.Retimed.{code_of_key, lasts, has_kept_variable}
 use Rattle.vcd_amend.specs.Retimed.{held_with, is_past, released_pieces, retimed_stamp, pieces_in_place, retimed_pieces}
-use Rattle.vcd_amend.specs.RetimedLaws.{tick_after_item, pieces_after}
+use Rattle.vcd_copy.specs.Ticks.{tick_after_item}
+use Rattle.vcd_amend.specs.RetimedLaws.{pieces_after}
 use Rattle.vcd_amend.specs.inside.LastChange.{last_change}
 use Rattle.vcd_amend.specs.RetimedLaws.{CanBeRetimed}
 use Rattle.vcd_text.proofs.read_back.Decimals.{number_of-decimal}

@@ -13,7 +13,8 @@ use Rattle.vcd_text.proofs.read_back.Decimals.{number_of-decimal}
 use Rattle.vcd_copy.specs.Pieces.{Piece, stamp_line}
 use Rattle.vcd_amend.specs.Retimed.{new_tick, ChangeKey, held_with, is_past, released_pieces, retimed_stamp}
 use Rattle.vcd_amend.specs.Retimed.{pieces_in_place, retimed_pieces}
-use Rattle.vcd_amend.specs.RetimedLaws.{tick_after_item, is_neither, ticks_of_others, PiecesAfterCutsAreRetimed}
+use Rattle.vcd_copy.specs.Ticks.{tick_after_item}
+use Rattle.vcd_amend.specs.RetimedLaws.{is_neither, ticks_of_others, PiecesAfterCutsAreRetimed}
 use Rattle.vcd_amend.proofs.retimed.Order.{changes_stand_in_order}
 use Rattle.vcd_amend.proofs.retimed.Pieces.{other_pieces_stand}
 use Rattle.vcd_amend.proofs.retimed.Ticks.{items_of, IsTickAfter, stamp_ticks, small, rises, placed}

@@ -26,7 +26,7 @@ use Rattle.vcd_amend.specs.AmendedItems.{file_has_change, due_items, items_due_a
 use Rattle.vcd_amend.specs.AmendedItems.{added_declarations, inserted_items, ItemFate, stands, is_left_out}
 use Rattle.vcd_amend.specs.AmendedItems.{is_exchanged, item_fate, still_none_yet, declaration_fate, variable_item_fate}
 use Rattle.vcd_amend.specs.WhatStands.{declares, may_be_put_in, may_become, declaration_may_go, may_go}
-use Rattle.vcd_amend.specs.RetimedLaws.{tick_after_item}
+use Rattle.vcd_copy.specs.Ticks.{tick_after_item}
 use Rattle.vcd_amend.proofs.amended.WholeText.{line_piece, after_line, lines_before, placed, made}
 use Rattle.vcd_amend.specs.AmendedText.{exchanged_bytes}
 use Rattle.vcd_amend.specs.CodedAmendment.{CodedSignal, fate_for, fates_for, coded_amendment}

@@ -38,7 +38,7 @@ use Rattle.vcd_amend.specs.GivenCodes.{held_codes, new_waves, waves_of_changed, 
 use Rattle.vcd_amend.specs.GivenCodes.{coded_signals, coded_derived, signals_left, changed_waves}
 use Rattle.vcd_amend.specs.WhatStands.{may_go, any_with_code, wave_differs, is_gone, change_may_go, declares}
 use Rattle.vcd_amend.specs.WhatStands.{may_be_put_in, may_become, UntouchedItemsStand}
-use Rattle.vcd_amend.specs.RetimedLaws.{tick_after_item}
+use Rattle.vcd_copy.specs.Ticks.{tick_after_item}
 use Rattle.vcd_amend.proofs.amended.OneCode.{itself, same_bytes}
 use Rattle.vcd_amend.proofs.shared.Lists.{found_has, found_is, is_there, each_of_both, some_first, all_of_map}
 use Rattle.vcd_amend.proofs.amended.Fitting.{found_apart}

@@ -2,7 +2,7 @@
 use Rattle.std.specs.Prelude.{ℕ, Bool, ◌&&◌, nat_le, if◌then◌else◌, List, [], ◌∷◌, Option, Some}
 use Rattle.vcd_copy.specs.Pieces.{Piece}
 use Rattle.vcd_amend.specs.Retimed.{ChangeKey, change_key, counts_with}
-use Rattle.vcd_amend.specs.RetimedLaws.{tick_after_item}
+use Rattle.vcd_copy.specs.Ticks.{tick_after_item}
 
 -- the last change up to a tick of those that count together with this key, among pieces that come
 -- after a stamp of `now`, or else `before`

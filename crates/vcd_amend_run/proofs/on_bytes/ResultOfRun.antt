@@ -133,9 +133,10 @@ module _ (file script : List ℕ) (depth : ℕ) (made : List ℕ) (passes : Pass
         let run = run_of_amend_run file script depth one.0 one.1 in
         (run.0, run.1, one.2.1 ∙ ap (λ (texts : List (List ℕ)). take count (concat texts)) run.2)
     refusal_of_run (errors.Run (run_errors.Write e)) ends =
-        let one = rw (was_empty, sym made_is) at (ends.1 file script shows is_script) in
-        let run = run_of_amend_run file script depth one.0 one.1 in
-        (run.0, run.1, one.2 ∙ ap concat run.2)
+        let one = rw (was_empty, sym made_is) at (ends.run file script shows is_script) in
+        let run = run_of_amend_run file script depth one.0
+        (subst (λ (f : List ℕ). IsAmendRun f script depth one.0) one.1.is_marked one.1.run) in
+        (run.0, run.1, one.2.0 ∙ ap concat run.2)
     refusal_of_run errors.NameOfSkipped ends =
         let found = ends.2 file script shows is_script in (nothing_made ends.1.0, found.0, found.1, found.2)
     refusal_of_run errors.LineRefused ends = let no : false ≡ true = ends.asked in absurd (cc)

@@ -1,7 +1,7 @@
 -- How a run ends, at each place where it can.
 use Rattle.std.proofs.Common.{◌≡◌, ◌≢◌, inl, inr, Result, Ok, Err, ℕ, zero, suc, List, Option, Some}
 use Rattle.std.proofs.Common.{None}
-use Rattle.std.proofs.Common.{refl, sym, subst, ap, ◌∙◌, ◌-◌, ◌<◌, Bool, true, false, length, arith}
+use Rattle.std.proofs.Common.{refl, sym, subst, ap, ◌∙◌, ◌-◌, ◌<◌, ◌++◌, Bool, true, false, length, arith}
 use Rattle.std.specs.Prelude.{IfSome, IfErr, IsErrAnd, take, ◌≤◌}
 use Rattle.std.specs.List.{concat}
 use Rattle.std.proofs.lemmas.Bool.{false≢true}
@@ -20,8 +20,12 @@ use Rattle.vcd_script.specs.Script.{script_lines}
 use Rattle.vcd_script.specs.Run.{RunOutcome}
 use Rattle.vcd_hollow.proofs.shared.HollowRuns.{run_on_hollow}
 use Rattle.vcd_script.proofs.shared.LinesAndHistory.{outcome_is}
-use Rattle.vcd_copy.specs.CopyEnds.{CopyFails}
+use Rattle.vcd_copy.specs.CopyEnds.{CopyFails, TookFirst}
+use Rattle.vcd_text.specs.WriteEnds.{TookBefore}
 use Rattle.vcd_text.specs.declared.fault.ReadError.{ReadError}
+use Rattle.vcd_text.specs.declared.fault.WriteError.{WriteError}
+use Rattle.vcd_text.specs.declared.fault.WriteError.TheVariants as write_errors
+use Rattle.vcd_text.specs.declared.fault.WriteError.TheVariants.{WriteFault}
 use Rattle.vcd_copy.specs.declared.copying.copy_error.CopyError.{CopyError}
 use Rattle.vcd_copy.specs.declared.copying.copy_error.CopyError.TheVariants as copy_errors
 use Rattle.vcd_text.specs.declared.reading.TheConstants.{LONG_FILE_LIMIT}
@@ -34,24 +38,19 @@ use Rattle.vcd_amend_run.specs.declared.running.AmendRunError.{AmendRunError}
 use Rattle.vcd_amend_run.specs.declared.running.AmendRunError.TheVariants as errors
 use Rattle.vcd_amend_run.specs.declared.hearing.HearError.{HearError}
 use Rattle.vcd_amend_run.specs.declared.hearing.HearError.TheVariants as hear_errors
-use Rattle.vcd_amend.specs.Amendment.{Amendment}
-use Rattle.vcd_amend.specs.RetimedCopy.{IsAmendedAfterCuts, is_cut_by}
-use Rattle.vcd_amend_run.specs.inside.CaptureAfterCuts.{capture_after_cuts}
 use Rattle.vcd_amend.specs.declared.cut_ticks.CutTicks.{CutTicks}
-use Rattle.vcd_amend.specs.KnownSignals.{IsAmendmentFor}
 use Rattle.vcd_amend_run.specs.AmendRun.{IsAmendRun}
 use Rattle.vcd_amend_run.specs.FileParts.{HasOutline, HasOtherOutline, HearFails}
 use Rattle.vcd_amend_run.specs.AmendRunEnds.{PassEnds, AllShow, FailsIn, ForAmendRun, IsShortFile, AmendRunEnds}
 use Rattle.vcd_amend_run.specs.inside.Running.{RefusesPlan}
 use Rattle.vcd_amend_run.specs.inside.Running.{IsPlanned, IsEdited, EndsBeforeReplies}
-use Rattle.vcd_amend_run.specs.inside.Running.{EndsBeforeCopy, HasEditLines}
-use Rattle.vcd_amend_run.specs.MarkedRun.{MarkedRunEnds, mark_with}
-use Rattle.vcd_copy.specs.Marks.{IsMarkedFile}
+use Rattle.vcd_amend_run.specs.inside.Running.{EndsBeforeCopy, HasEditLines, IsAmendedFor}
+use Rattle.vcd_amend_run.specs.MarkedRun.{MarkedRunEnds, IsMarkedRun, mark_with}
 use Rattle.vcd_amend_run.specs.declared.running.RunOptions.{RunOptions}
 use Rattle.vcd_amend_run.specs.inside.Running.{StopsInRun, error_of_hearing, error_of_copy}
 use Rattle.vcd_amend_run.proofs.running.PlannedRun.{sizes_agree, names_of_file}
 use Rattle.vcd_amend_run.proofs.running.CarriedOut.{is_run, same_replies}
-use Rattle.vcd_amend_run.proofs.running.MarkedRun.{marked_is_written}
+use Rattle.vcd_amend_run.proofs.running.MarkedRun.{marked_is_written, marked_run}
 
 -- ---- after the last reply
 
@@ -103,21 +102,23 @@ module _ (depth : ℕ) (passes : PassEnds) (script replies : DeviceEnd) (declare
             (sym run.2) one.replies,
       )
 
-  -- the end at a fault of the copy
-  pub ends_at_copy : (out : DeviceEnd) (e : CopyError) → AreEdited true
-      → CopyFails SIGNAL_LIMIT LONG_FILE_LIMIT passes.copy.before passes.copy.after passes.copy.has_failed out.before
-      out.after out.has_failed e
-      → AmendRunEnds depth passes script replies (Some out) (Err (error_of_copy e))
-  unfolding AmendRunEnds
-  ends_at_copy out (copy_errors.Read e) edited fails = inr (fails, replied edited)
-  ends_at_copy out (copy_errors.Write e) edited fails = ((fails.1, fails.2), replied edited)
-
 -- ---- the end with an output, by what is asked of the run
 
 module _ (o : RunOptions) (passes : PassEnds) (script replies : DeviceEnd) (declared : List VariableDeclaration)
     (first : Contents) (ks : List ℕ) (cs : List CutTicks) (last : Contents) (refused : ℕ) where
   abbrev AreEditedFor : Bool → Type 0
   AreEditedFor = AreEdited o.depth passes script replies declared first ks cs last refused
+
+  -- a text that is the amended file is that of the run with the mark
+  written_for : (file lines text : List ℕ) (edits : List (List ℕ))
+      → IsEdited file lines o.depth true (Appends replies.before replies.after) declared first ks cs last refused
+      → HasEditLines file lines o.depth edits
+      → IsAmendedFor declared first ks cs last (mark_with o.mark edits) file text
+      → (written : RunOutcome) × IsMarkedRun o.mark file lines o.depth written
+      × HasText replies (concat written.replies) × (text ≡ written.output) × (refused ≡ written.refused)
+  written_for file lines text edits one lines_are (a, is_for, (marked, is_marked, amended)) =
+      marked_is_written file lines marked o.depth (Appends replies.before replies.after) declared first ks cs last
+      refused text o.mark edits a one lines_are is_for is_marked amended
 
   -- the file is written, with a mark if one is asked for
   pub ends_with_output : (edits : List (List ℕ)) (out : DeviceEnd) → AreEditedFor true
@@ -126,11 +127,8 @@ module _ (o : RunOptions) (passes : PassEnds) (script replies : DeviceEnd) (decl
       → replies.has_failed ≡ false → out.has_failed ≡ false
       → IfSome passes.outline.before (λ file. length file ≤ LONG_FILE_LIMIT)
       → (o.is_all_or_nothing ≡ true → refused ≡ 0)
-      → IfSome passes.copy.before (λ file. (a : Amendment)
-      × IsAmendmentFor declared (capture_after_cuts first cs).signals ks last.signals a
-      × (marked : List ℕ) × IsMarkedFile SIGNAL_LIMIT (mark_with o.mark edits) file marked
-      × (text : List ℕ) × IsAmendedAfterCuts SIGNAL_LIMIT (is_cut_by cs) a marked text
-      × Appends out.before out.after text)
+      → IfSome passes.copy.before (λ file. (text : List ℕ)
+      × IsAmendedFor declared first ks cs last (mark_with o.mark edits) file text × Appends out.before out.after text)
       → MarkedRunEnds o passes script replies (Some out) (Ok (record { refused = refused }))
   ends_with_output edits out edited edits_are ready out_ready short none_refused copied = record {
     replies_ready = ready;
@@ -148,17 +146,61 @@ module _ (o : RunOptions) (passes : PassEnds) (script replies : DeviceEnd) (decl
     none_refused = none_refused;
     run = λ file lines shows script_shows.
         let one = edited file lines (shows.0, shows.1, shows.2) script_shows in
-        let here = subst (λ coming. IfSome coming (λ f. (a : Amendment)
-        × IsAmendmentFor declared (capture_after_cuts first cs).signals ks last.signals a
-        × (marked : List ℕ) × IsMarkedFile SIGNAL_LIMIT (mark_with o.mark edits) f marked
-        × (text : List ℕ) × IsAmendedAfterCuts SIGNAL_LIMIT (is_cut_by cs) a marked text
+        let (text, is, took) = subst (λ coming. IfSome coming (λ f. (text : List ℕ)
+        × IsAmendedFor declared first ks cs last (mark_with o.mark edits) f text
         × Appends out.before out.after text)) shows.3 copied in
-        let run = marked_is_written file lines here.2 o.depth
-        (Appends replies.before replies.after) declared first ks cs
-        last refused here.4 o.mark edits here.0 one (edits_are file lines (shows.0, shows.1, shows.2) script_shows)
-        here.1 here.3 here.5 in
-        (run.0, run.1, (run.2, subst (Appends out.before out.after) run.3 here.6, run.4));
+        let run = written_for file lines text edits one
+        (edits_are file lines (shows.0, shows.1, shows.2) script_shows) is in
+        (run.0, run.1, (run.2, subst (Appends out.before out.after) run.3 took, run.4));
   }
+
+  -- the end at a fault of the copy
+  pub ends_at_copy : (edits : List (List ℕ)) (out : DeviceEnd) (e : CopyError) → AreEditedFor true
+      → ((file lines : List ℕ) → (passes.declarations.before ≡ Some file) × (passes.outline.before ≡ Some file)
+      × (passes.changes.before ≡ Some file) → script.before ≡ Some lines → HasEditLines file lines o.depth edits)
+      → CopyFails SIGNAL_LIMIT LONG_FILE_LIMIT passes.copy.before passes.copy.after passes.copy.has_failed out.before
+      out.after out.has_failed e
+      → TookFirst SIGNAL_LIMIT (IsAmendedFor declared first ks cs last (mark_with o.mark edits)) passes.copy.before
+      out.before out.after out.has_failed e
+      → MarkedRunEnds o passes script replies (Some out) (Err (error_of_copy e))
+  unfolding AmendRunEnds
+  ends_at_copy edits out (copy_errors.Read e) edited edits_are fails begun =
+      inr (fails, replied o.depth passes script replies declared first ks cs last refused edited)
+  ends_at_copy edits out (copy_errors.Write e) edited edits_are fails begun = record {
+    some = (fails.1, fails.2);
+    run = λ file lines shows script_shows.
+        let one = edited file lines (shows.0, shows.1, shows.2) script_shows in
+        by_fault file lines one (edits_are file lines (shows.0, shows.1, shows.2) script_shows) e fails.2
+        (λ has_failed. subst (λ coming. IfSome coming (λ f. (s : ParseState) → Accepts SIGNAL_LIMIT (words_of f) s
+        → (text : List ℕ) × IsAmendedFor declared first ks cs last (mark_with o.mark edits) f text
+        × TookBefore text out.before out.after out.has_failed e)) shows.3 (begun has_failed) one.means.state
+        one.means.accepted);
+  }
+    where
+      by_fault : (file lines : List ℕ)
+          → IsEdited file lines o.depth true (Appends replies.before replies.after) declared first ks cs last refused
+          → HasEditLines file lines o.depth edits → (e : WriteError)
+          → TookBefore fails.1 out.before out.after out.has_failed e
+          → (out.has_failed ≡ true → (text : List ℕ)
+          × IsAmendedFor declared first ks cs last (mark_with o.mark edits) file text
+          × TookBefore text out.before out.after out.has_failed e)
+          → (written : RunOutcome) × IsMarkedRun o.mark file lines o.depth written
+          × (HasText replies (concat written.replies)
+          × TookBefore written.output out.before out.after out.has_failed e)
+      by_fault file lines one lines_are write_errors.NoMemory took begins =
+          let run = marked_run file lines o.depth (Appends replies.before replies.after) declared first ks cs last
+          refused o.mark edits one lines_are in
+          (run.0, run.1, (run.2, took))
+      by_fault file lines one lines_are (WriteFault count) took begins =
+          let (text, is, first_taken) = begins took.1 in
+          let run = written_for file lines text edits one lines_are is in (
+            run.0,
+            run.1,
+            (
+              run.2,
+              subst (λ t. TookBefore t out.before out.after out.has_failed (WriteFault count)) run.3 first_taken,
+            ),
+          )
 
   -- a line is refused, and so nothing is written
   pub ends_unwritten : (out : DeviceEnd) → AreEditedFor true → o.is_all_or_nothing ≡ true → refused ≢ 0
@@ -348,23 +390,28 @@ pub at_error : {A E : Type 0} (r : Result A E) (error : E) (P : E → Type 0) �
 at_error (Ok v) error P gives holds = tt
 at_error (Err e) error P gives holds = rw gives holds
 
--- a run that an error ended, which is not that of a refused line
-error_ends : (o : RunOptions) (passes : PassEnds) (script replies out : DeviceEnd) (e : AmendRunError)
+-- a run that an error ended before the copy
+pub error_ends : (o : RunOptions) (passes : PassEnds) (script replies out : DeviceEnd) (e : AmendRunError)
     → AmendRunEnds o.depth passes script replies (Some out) (Err e)
     → MarkedRunEnds o passes script replies (Some out) (Err e)
 unfolding AmendRunEnds
-error_ends o passes script replies out (errors.Run e) ends = ends
+error_ends o passes script replies out (errors.Run (run_errors.Capture e)) ends = ends
+error_ends o passes script replies out (errors.Run run_errors.ScriptTooLarge) ends = ends
+error_ends o passes script replies out (errors.Run run_errors.ScriptReadFault) ends = ends
+error_ends o passes script replies out (errors.Run (run_errors.NoMemory line)) ends = ends
+error_ends o passes script replies out (errors.Run (run_errors.ReplyFault count)) ends = ends
+error_ends o passes script replies out (errors.Run (run_errors.Write e)) ends = absurd ends
 error_ends o passes script replies out errors.NameOfSkipped ends = ends
 error_ends o passes script replies out errors.LineRefused ends = absurd ends
 error_ends o passes script replies out errors.CaptureChanged ends = ends
 
+-- a run that an error ended
 pub ends_with : (r : Result Summary AmendRunError) (error : AmendRunError) (o : RunOptions) (passes : PassEnds)
     (script replies out : DeviceEnd) → IsErrAnd r (λ e. e ≡ error)
-    → AmendRunEnds o.depth passes script replies (Some out) (Err error)
+    → MarkedRunEnds o passes script replies (Some out) (Err error)
     → MarkedRunEnds o passes script replies (Some out) r
 ends_with (Ok summary) error o passes script replies out gives ends = absurd gives
-ends_with (Err e) error o passes script replies out gives ends =
-    rw gives (error_ends o passes script replies out error ends)
+ends_with (Err e) error o passes script replies out gives ends = rw gives ends
 
 -- a run that a refused line ended
 pub unwritten_with : (r : Result Summary AmendRunError) (error : AmendRunError) (o : RunOptions) (passes : PassEnds)

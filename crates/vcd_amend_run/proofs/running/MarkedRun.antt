@@ -1,5 +1,5 @@
 -- A run with a mark: its lines, and the run on the marked file.
-use Rattle.std.proofs.Common.{◌≡◌, ◌∙◌, ◌≤◌, ℕ, true, List, Option, Some, None, sym, ap, subst, length}
+use Rattle.std.proofs.Common.{◌≡◌, ◌∙◌, ◌≤◌, ℕ, true, List, ◌++◌, Option, Some, None, refl, sym, ap, subst, length}
 use Rattle.std.specs.Prelude.{IfSome}
 use Rattle.std.specs.List.{concat}
 use Rattle.vcd_core.specs.declared.capture.TheConstants.{SIGNAL_LIMIT}
@@ -7,8 +7,8 @@ use Rattle.vcd_core.specs.Contents.{Contents}
 use Rattle.vcd_core.specs.Outline.{outline}
 use Rattle.vcd_text.specs.Words.{words_of}
 use Rattle.vcd_text.specs.Grammar.{ParseState, VariableDeclaration}
-use Rattle.vcd_copy.specs.Pieces.{Piece, state_of_pieces}
-use Rattle.vcd_copy.specs.Marks.{IsMark, IsMarkedFile}
+use Rattle.vcd_copy.specs.Pieces.{Piece, piece_bytes, state_of_pieces}
+use Rattle.vcd_copy.specs.Marks.{IsMark, IsMarkedFile, with_mark}
 use Rattle.vcd_copy.specs.MarkText.{mark_piece}
 use Rattle.vcd_copy.specs.declared.marking.head.MarkHead.{MarkHead}
 use Rattle.vcd_text.specs.declared.reading.TheConstants.{LONG_FILE_LIMIT}
@@ -28,7 +28,8 @@ use Rattle.vcd_amend_run.specs.inside.Running.{IsEdited, HasEditLines}
 use Rattle.vcd_amend.specs.declared.cut_ticks.CutTicks.{CutTicks}
 use Rattle.vcd_amend_run.proofs.dry_running.EditLines.{lines_of_outline}
 use Rattle.vcd_amend_run.proofs.running.PlannedRun.{outline_twice}
-use Rattle.vcd_amend_run.proofs.running.CarriedOut.{is_written}
+use Rattle.vcd_amend_run.proofs.laws.EditedFiles.{accepted_file_has_pieces}
+use Rattle.vcd_amend_run.proofs.running.CarriedOut.{is_run, is_written}
 
 -- the lines that were found on the outline are those of the file
 pub lines_of_plan : (file lines script : List ℕ) (depth skipped : ℕ) (o : Contents) (edits : List (List ℕ))
@@ -106,3 +107,43 @@ module _ (file lines marked : List ℕ) (depth : ℕ) (took : List ℕ → Type 
         run.3,
         run.4,
       )
+
+-- there is a run with the mark, whatever the amended file is
+pub marked_run : (file lines : List ℕ) (depth : ℕ) (took : List ℕ → Type 0) (declared : List VariableDeclaration)
+    (first : Contents) (ks : List ℕ) (cs : List CutTicks) (last : Contents) (refused : ℕ) (head : Option MarkHead)
+    (edits : List (List ℕ)) → IsEdited file lines depth true took declared first ks cs last refused
+    → HasEditLines file lines depth edits
+    → (written : RunOutcome) × IsMarkedRun head file lines depth written × took (concat written.replies)
+marked_run file lines depth took declared first ks cs last refused head edits edited edits_are =
+    let (marked, is_marked) = has_mark head in
+    let again = marked_is_edited file lines marked depth took declared first ks cs last refused head edits is_marked
+    edited in
+    let run = is_run marked lines depth again.whole again.skipped again.means in (
+      run.0,
+      record {
+        contents = edited.whole;
+        skipped = edited.skipped;
+        means = edited.means;
+        marked = marked;
+        is_marked = subst (λ (ls : List (List ℕ)). IsMarkedFile SIGNAL_LIMIT (mark_with head ls) file marked)
+            (edits_are edited.whole edited.skipped edited.means) is_marked;
+        run = run.1;
+      },
+      subst (λ (texts : List (List ℕ)). took (concat texts)) (sym run.2) again.replies,
+    )
+  where
+    has_mark : (head : Option MarkHead)
+        → (marked : List ℕ) × IsMarkedFile SIGNAL_LIMIT (mark_with head edits) file marked
+    has_mark None = (file, refl)
+    has_mark (Some head) =
+        let (pieces, tail, are) = accepted_file_has_pieces file edited.whole edited.skipped edited.means in (
+          piece_bytes (with_mark (mark_piece head edits) pieces) ++ tail,
+          record {
+            pieces = pieces;
+            tail = tail;
+            cut = are.cut;
+            allowed = are.allowed;
+            in_body = are.in_body;
+            is = refl;
+          },
+        )

@@ -1,6 +1,7 @@
 -- The end of a copy: what the writer took.
-use Rattle.std.proofs.Common.{◌≡◌, ◌≤◌, ◌∙◌, ℕ, Bool, true, false, List, [], ◌++◌, length, take, refl, sym, subst}
-use Rattle.std.proofs.lemmas.List.{append-nil}
+use Rattle.std.proofs.Common.{◌≡◌, ◌≤◌, ◌∙◌, ℕ, Bool, true, false, List, [], ◌++◌, length, take, refl, sym}
+use Rattle.std.proofs.Common.{subst, arith}
+use Rattle.std.proofs.lemmas.List.{append-nil, length-append, take-append-le}
 use Rattle.std.proofs.lemmas.Bool.{false≢true}
 use Rattle.std.specs.Prelude.{Option, Some, None, IfSome, Result, Ok, Err, OnOk, IsOk, IfErr}
 use Rattle.std.specs.Io.KnownBytes.{Appends, Keeps}
@@ -13,9 +14,12 @@ use Rattle.vcd_text.specs.declared.fault.WriteError.{WriteError}
 use Rattle.vcd_text.specs.declared.fault.WriteError.TheVariants.{WriteFault}
 use Rattle.vcd_text.specs.declared.writing.output.Output.{Output}
 use Rattle.vcd_copy.specs.Copied.{CopyRules, IsCopy}
-use Rattle.vcd_copy.specs.CopyEnds.{CopyFails, ReadFails}
+use Rattle.vcd_copy.specs.CopyEnds.{CopyFails, ReadFails, TookFirst}
+use Rattle.vcd_text.specs.Words.{words_of}
+use Rattle.vcd_text.specs.Grammar.{ParseState, Accepts}
 use Rattle.vcd_text.specs.Refusals.{IsRefusal}
-use Rattle.vcd_copy.specs.inside.Copying.{TookCopy}
+use Rattle.vcd_text.specs.WriteEnds.{TookBefore}
+use Rattle.vcd_copy.specs.inside.Copying.{TookCopy, TookBeginning}
 use Rattle.vcd_text.specs.EmittedText.{Emits, EmitsMore, HasEmitted}
 use Rattle.vcd_text.specs.declared.reading.TheConstants.{LONG_FILE_LIMIT}
 use Rattle.vcd_text.proofs.shared.EmittedParts.{writes_both, writes_as, writes_part, whole_written, all_taken}
@@ -109,3 +113,53 @@ copy_fails {text = text} limit most coming left failed later copied (Err (copy_e
     held kept =
     let (is, has_failed, ok) = wrote e refl in
     (when_ok (failed ≡ false) copied ready ok, text, failed_prefix {T = Unit {0}} later (Err e) held kept is has_failed)
+
+-- ---- the beginning of the copy
+
+-- a counted prefix of a text is one of a text that begins with it
+pub took_more : (text rest : List ℕ) (before after : Option (List ℕ)) (failed : Bool) (count : ℕ)
+    → TookBefore text before after failed (WriteFault count)
+    → TookBefore (text ++ rest) before after failed (WriteFault count)
+took_more text rest before after failed count (took, has_failed) = (
+  λ small.
+      let (appends, within) = took (omega (arith, small, length-append text rest)) in (
+        subst (Appends before after) (sym (take-append-le count text rest within)) appends,
+        omega (arith, within, length-append text rest),
+      ),
+  has_failed,
+)
+
+-- the writer took a prefix of the copy
+first_taken : {W : Type 0} {sink : sinks.Ghosts W} (o0 o1 o2 : Output W) (limit : ℕ) (rules : CopyRules)
+    (coming : Option (List ℕ)) (later : W) → o0.unsent.items ≡ [] → o0.sent_count ≡ 0
+    → IfSome coming (TookBeginning sink limit rules o0 o1) → Emits sink o1 o2 []
+    → Keeps (sink.taken o2.writer.now) (sink.taken later) → sink.has_failed later ≡ true
+    → IfSome coming (λ file. (s : ParseState) → Accepts limit (words_of file) s
+    → (text : List ℕ) × IsCopy limit rules file text
+    × TookBefore text (sink.taken o0.writer.now) (sink.taken later) (sink.has_failed later) (WriteFault o2.sent_count))
+first_taken o0 o1 o2 limit rules None later empty none begun sent kept has_failed = tt
+first_taken {sink = sink} o0 o1 o2 limit rules (Some file) later empty none begun sent kept has_failed =
+    λ s accepted.
+    let (rest, copy) = begun.begins s accepted in (
+      begun.text ++ rest,
+      copy,
+      took_more begun.text rest (sink.taken o0.writer.now) (sink.taken later) (sink.has_failed later) o2.sent_count
+          (failed_prefix {T = Unit {0}} later (Err (WriteFault o2.sent_count))
+          (whole_written empty none (writes_as (append-nil begun.text) (writes_both begun.emits sent))) kept refl
+          has_failed),
+    )
+
+pub copy_begun : {W T S : Type 0} {sink : sinks.Ghosts W} (o0 o1 o2 : Output W) (limit : ℕ) (rules : CopyRules)
+    (coming : Option (List ℕ)) (later : W) (copied : Result S ReadError) (r : Result T CopyError)
+    → IfErr r (λ e. (error : WriteError) → e ≡ copy_errors.Write error
+    → (error ≡ WriteFault o2.sent_count) × (sink.has_failed later ≡ true) × IsOk copied)
+    → o0.unsent.items ≡ [] → o0.sent_count ≡ 0 → OnOk copied (IfSome coming (TookBeginning sink limit rules o0 o1))
+    → Emits sink o1 o2 [] → Keeps (sink.taken o2.writer.now) (sink.taken later)
+    → IfErr r (TookFirst limit (IsCopy limit rules) coming (sink.taken o0.writer.now) (sink.taken later)
+    (sink.has_failed later))
+copy_begun o0 o1 o2 limit rules coming later copied (Ok x) wrote empty none begun sent kept = tt
+copy_begun o0 o1 o2 limit rules coming later copied (Err (copy_errors.Read e)) wrote empty none begun sent kept = tt
+copy_begun o0 o1 o2 limit rules coming later copied (Err (copy_errors.Write e)) wrote empty none begun sent kept =
+    let (is, failed, ok) = wrote e refl in
+    rw is (λ has_failed. first_taken o0 o1 o2 limit rules coming later empty none (when_ok _ copied begun ok) sent kept
+    failed)

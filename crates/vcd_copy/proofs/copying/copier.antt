@@ -1,3 +1,4 @@
 -- Lemmas of `copier`.
 pub mod CopiedChunks
 pub mod Told
+pub mod BegunCopies

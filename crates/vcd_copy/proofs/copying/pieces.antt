@@ -1,5 +1,6 @@
 -- Lemmas of `pieces`.
 pub mod EndedItems
+pub mod BegunItems
 pub mod OneWordMore
 pub mod CopiedWords
 pub mod SpacedWords

@@ -140,13 +140,13 @@ spaced (b ∷ bs) =
 
 -- ---- their words
 
-space_ends : (tail : List ℕ) → list_all is_white_space tail ≡ true → is_end tail ≡ true
-space_ends [] space = refl
-space_ends (b ∷ bs) space = (and_parts (is_white_space b) (list_all is_white_space bs) space).0
+pub white_ends : (tail : List ℕ) → list_all is_white_space tail ≡ true → is_end tail ≡ true
+white_ends [] space = refl
+white_ends (b ∷ bs) space = (and_parts (is_white_space b) (list_all is_white_space bs) space).0
 
 rest_ends : (ws : List Spaced) (tail : List ℕ) → All HasSpace ws → All IsApart ws → list_all is_white_space tail ≡ true
     → is_end (bytes_of ws ++ tail) ≡ true
-rest_ends [] tail spaces apart end = space_ends tail end
+rest_ends [] tail spaces apart end = white_ends tail end
 rest_ends (w ∷ ws) tail spaces apart end = by_space w.space (All-head HasSpace w ws spaces)
     (All-head IsApart w ws apart)
   where
@@ -234,21 +234,21 @@ spelling_some (real_or_string first text code) = (_, _, refl)
 spelling_some (dump_word word) = (_, _, refl)
 spelling_some (other word words) = (_, _, refl)
 
--- words in two parts
-record InTwo (ws : List Spaced) (xs ys : List (List ℕ)) : Type 0 where
-  front : List Spaced
-  back : List Spaced
-  whole : ws ≡ front ++ back
-  front_is : map (λ w. w.word) front ≡ xs
-  back_is : map (λ w. w.word) back ≡ ys
+-- a list in two parts, by what a function gives of each
+pub record InTwo {A B : Type 0} (f : A → B) (ws : List A) (xs ys : List B) : Type 0 where
+  pub front : List A
+  pub back : List A
+  pub whole : ws ≡ front ++ back
+  pub front_is : map f front ≡ xs
+  pub back_is : map f back ≡ ys
 
-in_two : (ws : List Spaced) (xs ys : List (List ℕ)) → map (λ w. w.word) ws ≡ xs ++ ys → InTwo ws xs ys
-in_two ws [] ys is = record { front = []; back = ws; whole = refl; front_is = refl; back_is = is }
-in_two [] (x ∷ xs) ys is = let never : ◌≡◌ {A = List (List ℕ)} [] (x ∷ (xs ++ ys)) = is in absurd (cc)
-in_two (w ∷ ws) (x ∷ xs) ys is =
-    let first : w.word ≡ x = cc in
-    let more : map (λ w. w.word) ws ≡ xs ++ ys = cc in
-    let rest = in_two ws xs ys more in
+pub in_two : {A B : Type 0} (f : A → B) (ws : List A) (xs ys : List B) → map f ws ≡ xs ++ ys → InTwo f ws xs ys
+in_two f ws [] ys is = record { front = []; back = ws; whole = refl; front_is = refl; back_is = is }
+in_two {B = B} f [] (x ∷ xs) ys is = let never : ◌≡◌ {A = List B} [] (x ∷ (xs ++ ys)) = is in absurd (cc)
+in_two f (w ∷ ws) (x ∷ xs) ys is =
+    let first : f w ≡ x = cc in
+    let more : map f ws ≡ xs ++ ys = cc in
+    let rest = in_two f ws xs ys more in
     record {
       front = w ∷ rest.front;
       back = rest.back;
@@ -341,7 +341,7 @@ cut_items [] [] words spaces unbroken apart = record {
 }
 cut_items [] (w ∷ ws) words spaces unbroken apart = absurd (cc)
 cut_items (i ∷ is) ws words spaces unbroken apart =
-    let two = in_two ws (spelling i) (spellings is) words in
+    let two = in_two (λ (w : Spaced). w.word) ws (spelling i) (spellings is) words in
     subst (ArePieces (i ∷ is)) (sym two.whole) (from_front i is two.front two.back two.front_is (subst (All HasSpace)
     two.whole spaces) (subst (All HasWord) two.whole unbroken) (subst (λ l. All IsApart (drop 1 l)) two.whole apart)
     (λ a b

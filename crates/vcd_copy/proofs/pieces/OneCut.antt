@@ -11,7 +11,7 @@ use Rattle.vcd_copy.specs.Pieces.{Piece}
 use Rattle.vcd_copy.specs.CutLaws.{CutIsUnique}
 use Rattle.vcd_copy.proofs.pieces.Bytes.{texts, texts_are, is_end, both_parts}
 use Rattle.vcd_copy.proofs.pieces.Cuts.{Spaced, spaced, words_are, SpellsItem, IsTight, SpaceIsWhite, HasSomeSpace}
-use Rattle.vcd_copy.proofs.pieces.Cuts.{spelling_some}
+use Rattle.vcd_copy.proofs.pieces.Cuts.{spelling_some, white_ends}
 use Rattle.vcd_text.specs.inside.Words.{words_from}
 
 -- bytes that do not begin with white space
@@ -21,8 +21,8 @@ BeginsInWord (b ∷ bs) = is_white_space b ≡ false
 
 -- ---- white space in front
 
-same_space : (s t x y : List ℕ) → list_all is_white_space s ≡ true → list_all is_white_space t ≡ true → BeginsInWord x
-    → BeginsInWord y → s ++ x ≡ t ++ y → (s ≡ t) × (x ≡ y)
+pub same_space : (s t x y : List ℕ) → list_all is_white_space s ≡ true → list_all is_white_space t ≡ true
+    → BeginsInWord x → BeginsInWord y → s ++ x ≡ t ++ y → (s ≡ t) × (x ≡ y)
 same_space [] [] x y s_white t_white x_word y_word same = (refl, same)
 same_space [] (c ∷ t) [] y s_white t_white x_word y_word same = absurd x_word
 same_space [] (c ∷ t) (b ∷ x) y s_white t_white x_word y_word same =
@@ -45,8 +45,8 @@ same_space (b ∷ s) (c ∷ t) x y s_white t_white x_word y_word same =
 -- ---- one body
 
 -- one of two prefixes goes on with what the other leaves
-overlap : (x y r q : List ℕ) → x ++ r ≡ y ++ q → ((m : List ℕ) × (y ≡ x ++ m) × (r ≡ m ++ q))
-    ⊎ ((m : List ℕ) × (x ≡ y ++ m) × (q ≡ m ++ r))
+pub overlap : {A : Type 0} (x y r q : List A) → x ++ r ≡ y ++ q → ((m : List A) × (y ≡ x ++ m) × (r ≡ m ++ q))
+    ⊎ ((m : List A) × (x ≡ y ++ m) × (q ≡ m ++ r))
 overlap [] y r q same = inl (y, refl, same)
 overlap (b ∷ x) [] r q same = inr (b ∷ x, refl, sym same)
 overlap (b ∷ x) (c ∷ y) r q same =
@@ -113,13 +113,9 @@ same_body x y r q same words r_ends q_ends x_tight y_tight = elim (overlap x y r
 abbrev piece_bytes : List Piece → List ℕ
 piece_bytes ps = flat_map (λ p. p.space ++ p.body) ps
 
-space_ends : (tail : List ℕ) → list_all is_white_space tail ≡ true → is_end tail ≡ true
-space_ends [] white = refl
-space_ends (b ∷ bs) white = (and_parts (is_white_space b) (list_all is_white_space bs) white).0
-
-pieces_end : (ps : List Piece) (tail : List ℕ) → All SpaceIsWhite ps → All HasSomeSpace ps
-    → list_all is_white_space tail ≡ true → is_end (piece_bytes ps ++ tail) ≡ true
-pieces_end [] tail spaces apart end = space_ends tail end
+pub pieces_end : (ps : List Piece) (tail : List ℕ) → All SpaceIsWhite ps → All HasSomeSpace ps
+    → is_end tail ≡ true → is_end (piece_bytes ps ++ tail) ≡ true
+pieces_end [] tail spaces apart end = end
 pieces_end (p ∷ ps) tail spaces apart end = by_space p.space (All-head SpaceIsWhite p ps spaces)
     (All-head HasSomeSpace p ps
     apart)
@@ -130,7 +126,7 @@ pieces_end (p ∷ ps) tail spaces apart end = by_space p.space (All-head SpaceIs
     by_space (b ∷ bs) here some = (and_parts (is_white_space b) (list_all is_white_space bs) here).0
 
 -- a body with a word begins in it
-begins : (body rest x : List ℕ) (xs : List (List ℕ)) → texts body ≡ x ∷ xs → prefix_len is_white_space body ≡ 0
+pub begins : (body rest x : List ℕ) (xs : List (List ℕ)) → texts body ≡ x ∷ xs → prefix_len is_white_space body ≡ 0
     → BeginsInWord (body ++ rest)
 unfolding words_from
 begins [] rest x xs words tight = absurd (cc)
@@ -140,20 +136,20 @@ begins (b ∷ bs) rest x xs words tight = elim (cases_Bool (is_white_space b)) [
   | inr none ↦ none
 ]
 
-body_begins : (p : Piece) (rest : List ℕ) → SpellsItem p → IsTight p → BeginsInWord (p.body ++ rest)
+pub body_begins : (p : Piece) (rest : List ℕ) → SpellsItem p → IsTight p → BeginsInWord (p.body ++ rest)
 body_begins p rest is tight =
     let some = spelling_some p.item in
     begins p.body rest some.0 some.1 (sym (texts_are p.body) ∙ is ∙ some.2) tight.0
 
-later : (ps : List Piece) → All HasSomeSpace ps → All HasSomeSpace (drop 1 ps)
+pub later : (ps : List Piece) → All HasSomeSpace ps → All HasSomeSpace (drop 1 ps)
 later [] apart = apart
 later (p ∷ ps) apart = All-tail HasSomeSpace p ps apart
 
-same_pieces : (ps qs : List Piece) (tail last : List ℕ) → piece_bytes ps ++ tail ≡ piece_bytes qs ++ last
+-- pieces of the same items, before bytes at an end of words
+pub same_pieces : (ps qs : List Piece) (tail last : List ℕ) → piece_bytes ps ++ tail ≡ piece_bytes qs ++ last
     → map (λ p. p.item) ps ≡ map (λ p. p.item) qs → All SpellsItem ps → All SpellsItem qs → All IsTight ps
     → All IsTight qs → All SpaceIsWhite ps → All SpaceIsWhite qs → All HasSomeSpace (drop 1 ps)
-    → All HasSomeSpace (drop 1 qs) → list_all is_white_space tail ≡ true → list_all is_white_space last ≡ true
-    → (ps ≡ qs) × (tail ≡ last)
+    → All HasSomeSpace (drop 1 qs) → is_end tail ≡ true → is_end last ≡ true → (ps ≡ qs) × (tail ≡ last)
 same_pieces [] [] tail last same items p_is q_is p_tight q_tight p_white q_white p_apart q_apart end finish =
     (refl, same)
 same_pieces [] (q ∷ qs) tail last same items p_is q_is p_tight q_tight p_white q_white p_apart q_apart end finish =
@@ -189,4 +185,4 @@ same_pieces (p ∷ ps) (q ∷ qs) tail last same items p_is q_is p_tight q_tight
 pub cut_is_unique : CutIsUnique
 cut_is_unique file pieces again tail last cut other_cut items = same_pieces pieces again tail last (sym cut.whole ∙
     other_cut.whole) items cut.spelled other_cut.spelled cut.tight other_cut.tight cut.spaces other_cut.spaces cut.apart
-    other_cut.apart cut.end other_cut.end
+    other_cut.apart (white_ends tail cut.end) (white_ends last other_cut.end)

@@ -6,8 +6,8 @@ use Rattle.std.proofs.lemmas.Bool.{and_parts}
 use Rattle.std.proofs.lemmas.List.Elements.{All-head, All-tail, All-drop}
 use Rattle.vcd_core.specs.Word.{is_white_space}
 use Rattle.vcd_text.specs.Words.{words_of}
-use Rattle.vcd_text.specs.Items.{Item, spellings}
-use Rattle.vcd_text.specs.Grammar.{ParseState, AllowsAll, state_after_item, word_texts}
+use Rattle.vcd_text.specs.Items.{Item, spelling, spellings}
+use Rattle.vcd_text.specs.Grammar.{ParseState, AllowsAll, state_after, state_after_item, word_texts}
 use Rattle.vcd_copy.specs.Pieces.{Piece, IsCut, piece_bytes}
 use Rattle.vcd_copy.specs.Copied.{piece_items}
 use Rattle.vcd_copy.proofs.pieces.Bytes.{texts, texts_are, is_end, space_first, both_parts, lines_last}
@@ -65,3 +65,21 @@ same_items c (i ∷ is) [] same a b =
 same_items c (i ∷ is) (j ∷ js) same a b =
     let one : i ≡ j = one_item c i j (spellings is) (spellings js) a.0.0 b.0.0 same in
     ap₂ (λ x xs. x ∷ xs) one (same_items (state_after_item c i) is js (one_rest i j _ _ one same) a.1 (rw one b.1))
+
+-- items whose words are the first of those of others
+pub first_items : (c : ParseState) (is js : List Item) (later : List (List ℕ)) → spellings is ++ later ≡ spellings js
+    → AllowsAll c is → AllowsAll c js
+    → (rest : List Item) × (js ≡ is ++ rest) × (later ≡ spellings rest) × AllowsAll (state_after c is) rest
+first_items c [] js later same a b = (js, refl, same, b)
+first_items c (i ∷ is) [] later same a b =
+    let some = spelling_some i in
+    let never : ◌≡◌ {A = List (List ℕ)} (((some.0 ∷ some.1) ++ spellings is) ++ later) [] =
+    ap (λ ws. (ws ++ spellings is) ++ later) (sym some.2) ∙ same in
+    absurd (cc)
+first_items c (i ∷ is) (j ∷ js) later same a b =
+    let all : spelling i ++ (spellings is ++ later) ≡ spelling j ++ spellings js =
+    sym (append_assoc (spelling i) (spellings is) later) ∙ same in
+    let one : i ≡ j = one_item c i j _ _ a.0.0 b.0.0 all in
+    let (rest, split, words, allowed) = first_items (state_after_item c i) is js later (one_rest i j _ _ one all) a.1
+    (rw one b.1) in
+    (rest, ap (λ x. x ∷ js) (sym one) ∙ ap (λ l. i ∷ l) split, words, allowed)

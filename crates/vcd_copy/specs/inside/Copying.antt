@@ -9,7 +9,7 @@ use Rattle.vcd_core.specs.declared.capture.HeaderKind.TheVariants.{Date, Version
 use Rattle.vcd_core.specs.declared.capture.Timescale.{Timescale}
 use Rattle.vcd_core.specs.declared.device.Sink as sinks
 use Rattle.vcd_text.specs.Words.{WordOnLine, words_of}
-use Rattle.vcd_text.specs.Grammar.{initial_state, AllowsAll, word_texts}
+use Rattle.vcd_text.specs.Grammar.{ParseState, initial_state, AllowsAll, word_texts, Accepts}
 use Rattle.vcd_copy.specs.Pieces.{state_of_pieces, Piece, piece_bytes, IsCut}
 use Rattle.vcd_copy.specs.Copied.{CopyRules, copied_pieces, piece_items}
 use Rattle.vcd_copy.specs.Copied.{may_be_amended, is_comment_or_other, Shows}
@@ -203,3 +203,11 @@ pub record TookCopy {W : Type 0} (sink : sinks.Ghosts W) (limit : ℕ) (rules : 
   pub text : List ℕ
   pub is_copy : IsCopy limit rules bytes text
   pub emits : Emits sink start now text
+
+-- the output took a text, with which the copy of a file of these bytes begins if it is accepted
+pub record TookBeginning {W : Type 0} (sink : sinks.Ghosts W) (limit : ℕ) (rules : CopyRules)
+    (start now : Output W) (bytes : List ℕ) : Type 0 where
+  pub text : List ℕ
+  pub emits : Emits sink start now text
+  pub begins : (s : ParseState) → Accepts limit (words_of bytes) s
+      → (rest : List ℕ) × IsCopy limit rules bytes (text ++ rest)

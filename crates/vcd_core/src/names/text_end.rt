@@ -13,6 +13,7 @@ pub(crate) struct TextEnd {
 }
 
 impl TextEnd {
+    #[tactic(auto, unfolding(crate::specs::inside::names::TextEnd::end_after))]
     pub(crate) fn new() -> TextEnd
         ensures { result ≡ text_end [] }
     {
@@ -31,6 +32,7 @@ impl TextEnd {
     /// Whether a text with this end may end with one that has the other end. It is never false if
     /// the text does. If it is true, the caller compares the bytes.
     #[inline(always)]
+    #[tactic(auto, using(crate::proofs::names::text_end::EndsOfTexts::passes_test))]
     pub(crate) fn may_end_with(self, other: TextEnd) -> bool
         ensures { (text prefix end : List ℕ) → self ≡ text_end text → other ≡ text_end end
             → text ≡ prefix ++ end → IsTrue result }

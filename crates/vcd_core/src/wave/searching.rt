@@ -34,6 +34,7 @@ fn search_start(changes: &[Change], near: usize, tick: u64) -> usize
 
 /// An index from which on each change is later than `tick`: `near`, or one after it, found by steps
 /// that double.
+#[tactic(auto, using(crate::proofs::wave::searching::ChangesUpToTick::late_from))]
 fn search_end(changes: &[Change], near: usize, tick: u64) -> usize
     requires form { (width : ℕ) × IsWave width changes.now }
     requires within { near ≤ length changes.now }

@@ -31,6 +31,7 @@ fn is_moved(old: &Change, by: i64, new: &Change) -> bool
 }
 
 /// How many changes two lists have in common at the front.
+#[tactic(auto, using(crate::proofs::exchange::trimming::TrimmedPieces::walk_end))]
 fn common_prefix(old: &[Change], new: &[Change]) -> usize
     ensures count { result ≡ common_prefix_len same_change old.now new.now }
     ensures in_old { result ≤ length old.now }

@@ -53,6 +53,7 @@ fn inverse_changes(
 }
 
 /// The value with each bit negated, where z becomes x, 64 bits at a time.
+#[tactic(auto, using(crate::proofs::plans::invert::InversePiece::inverse_letters))]
 pub fn inverse_of(value: &Value) -> Value
     ensures { result ≡ map not_bit value.now }
 {

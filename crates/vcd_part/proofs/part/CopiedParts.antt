@@ -9,6 +9,9 @@ use Rattle.vcd_copy.specs.Pieces.{piece_bytes}
 use Rattle.vcd_part.specs.inside.PartAmender.{rules_of}
 use Rattle.vcd_part.specs.declared.request.Request.{Request}
 use Rattle.vcd_copy.proofs.shared.StatesOfPieces.{at_any_limit}
+use Rattle.vcd_text.specs.declared.reading.TheConstants.{VARIABLE_LIMIT}
+use Rattle.vcd_part.specs.PartEnds.{IsPartText}
+use Rattle.vcd_part.proofs.part.CopiedPieces.{part_is_copied}
 
 same_copied : (r : Request) (before ps : List Piece)
     → copied_pieces (rules_of r) before ps ≡ copied_pieces (part_rules r) before ps
@@ -28,4 +31,15 @@ copied_by_part_rules limit r file text copy = record {
   is = copy.is ∙ ap₂ (λ x y. x ++ y) (same_copied r [] copy.pieces) (ap (λ (b : Bool). piece_bytes
       (last_settled (waiting_stamp r copy.pieces) (if b then pieces_at_end r copy.pieces else [])) ++ copy.tail)
       (sym (ap (λ (s : ParseState). s.in_body) (at_any_limit limit copy.pieces)) ∙ copy.in_body));
+}
+
+-- so its text is that of the part's pieces
+pub part_text : (r : Request) (file text : List ℕ) → IsCopy VARIABLE_LIMIT (part_rules r) file text
+    → IsPartText r file text
+part_text r file text copy = record {
+  pieces = copy.pieces;
+  tail = copy.tail;
+  cut = copy.cut;
+  allowed = copy.allowed;
+  is = copy.is ∙ part_is_copied r copy.pieces copy.tail;
 }

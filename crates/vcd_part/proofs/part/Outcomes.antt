@@ -1,7 +1,7 @@
 -- What comes of a copy that has no fault: a part, a refusal, or a window past the end.
 use Rattle.std.proofs.Common.{◌≡◌, ◌∙◌, ◌<◌, ◌≤◌, ℕ, Bool, true, false, List, refl, sym, ap, subst}
 use Rattle.std.proofs.Common.{Option, Some, None, if◌then◌else◌, length}
-use Rattle.std.specs.Prelude.{Result, Ok, Err, IfSome, is_some, option_map}
+use Rattle.std.specs.Prelude.{Result, Ok, Err, IfSome, OnOk, is_some, option_map}
 use Rattle.std.specs.Io.KnownBytes.{IsAtEnd}
 use Rattle.std.proofs.lemmas.Option.{IfSome_then}
 use Rattle.vcd_core.specs.Devices.{DeviceEnd, HasText, IsRead}
@@ -23,6 +23,8 @@ use Rattle.vcd_part.specs.declared.part.PartError.TheVariants as errors
 use Rattle.vcd_part.specs.inside.PartAmender.{HasSeen, IsSaid, OutcomeOf, refusal_of}
 use Rattle.vcd_copy.proofs.shared.StatesOfPieces.{at_any_limit}
 use Rattle.vcd_part.proofs.amender.Decided.{answer_in, answer_with_window, answer_without_window, answer_with_refusal}
+use Rattle.vcd_part.specs.PartOfFile.{IsPartOfFile}
+use Rattle.vcd_part.proofs.laws.PartOfFile.{part_of_file}
 use Rattle.vcd_part.proofs.part.CopiedPieces.{part_is_copied}
 use Rattle.vcd_part.proofs.part.SameItems.{told_items, same_comments}
 
@@ -199,3 +201,11 @@ module _ (m : PartAmender) (r : Request) (same : m.request ≡ r) (capture out :
             subst (λ q. IsPastEnd q file end) same
             (is_past_end m file text end (own_rules file text copy) t none end_is (w, known, past))),
       )
+
+  -- a part that is written is one for those who use it
+  pub headline_of : (result : Result WrittenPart PartError) → OutcomeOf m result → OnOk result
+      (IfSome capture.before (λ file. (text : List ℕ) × IsPartOfFile r file text × HasText out text))
+  unfolding PartEnds
+  headline_of (Ok written) of = IfSome_then capture.before (part_ends (Ok written) of).2 (λ file is.
+      let (text, part, appends) = is in (text, part_of_file r file text written part, appends))
+  headline_of (Err e) of = tt

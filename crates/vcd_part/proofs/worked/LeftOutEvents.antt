@@ -10,11 +10,11 @@ use Rattle.vcd_part.specs.PartPieces.{each_once}
 use Rattle.vcd_part.specs.WrittenPart.{events_left_out_at_first}
 
 -- a request for all variables from this tick on
-abbrev all_from : (first : ℕ) → Request
+abbrev pub all_from : (first : ℕ) → Request
 all_from first = record { keep = None; remove = None; from = Ticks first; to = Ticks 9 }
 
 -- the window from this tick on
-abbrev window_from : (first : ℕ) → TickRange
+abbrev pub window_from : (first : ℕ) → TickRange
 window_from first = record { first = first; last = 9 }
 
 -- a variable of this kind, with this name and code

@@ -1,21 +1,20 @@
 -- What is found by a `deglitch`, run by run, is what is found in all runs.
-use Rattle.std.proofs.Common.{◌≡◌, ℕ, ◌+◌, ◌-◌, ◌<◌, ◌==◌, ◌&&◌, nat_lt, nat_le, max, not, Bool, true, false, cond}
-use Rattle.std.proofs.Common.{if◌then◌else◌, Option, Some, None, List, [], ◌∷◌, ◌++◌, map, refl, ap, sym, ◌∙◌, arith}
+use Rattle.std.proofs.Common.{◌≡◌, ℕ, ◌-◌, ◌==◌, ◌&&◌, nat_lt, nat_le, not, Bool, true, false, cond}
+use Rattle.std.proofs.Common.{if◌then◌else◌, Some, None, List, [], ◌∷◌, map, refl, ap, sym, ◌∙◌}
 use Rattle.std.specs.List.{filter}
 use Rattle.std.proofs.lemmas.Bool.{and_parts, eqb-true}
 use Rattle.vcd_core.specs.declared.bit.Bit.{Bit}
 use Rattle.vcd_core.specs.declared.wave.Change.{Change}
-use Rattle.vcd_core.specs.Value.{all_x, same_letters}
+use Rattle.vcd_core.specs.Value.{all_x}
 use Rattle.vcd_core.specs.Wave.{change}
 use Rattle.vcd_remarks.specs.declared.findings.found_spans.FoundSpans.{FoundSpans}
 use Rattle.vcd_remarks.specs.declared.findings.found_spans.Span.{Span}
-use Rattle.vcd_remarks.specs.declared.findings.found_ticks.FoundTicks.{FoundTicks}
 use Rattle.vcd_remarks.specs.declared.remarks.deglitching.FoundRuns.{FoundRuns}
 use Rattle.vcd_remarks.specs.declared.remarks.deglitching.KeptRun.{KeptRun}
-use Rattle.vcd_remarks.specs.EditFindings.{gap, gaps, delayed_edges, kept_runs, late_edges, deglitch_findings}
-use Rattle.vcd_remarks.specs.FoundTicks.{span, found_ticks, found_spans, greatest}
+use Rattle.vcd_remarks.specs.EditFindings.{gaps, delayed_edges, kept_runs, deglitch_findings}
+use Rattle.vcd_remarks.specs.FoundTicks.{span, found_spans}
 use Rattle.vcd_remarks.specs.ValueRuns.{ValueRun, tick_before, runs_begun, changes_from_zero, ticks_of_run, is_pulse}
-use Rattle.vcd_remarks.specs.inside.FoundTicks.{with_ticks, with_span, with_found, with_spans}
+use Rattle.vcd_remarks.specs.inside.FoundTicks.{with_found, with_spans}
 use Rattle.vcd_remarks.specs.inside.remarks.Deglitching.{with_runs, with_pulse, with_kept, kept_run, short_span}
 use Rattle.vcd_remarks.specs.inside.remarks.Deglitching.{stretch_before, late_edge}
 use Rattle.vcd_remarks.specs.inside.remarks.Deglitching.{first_run, found_first, found_from, found_in, findings_of}

@@ -30,7 +30,7 @@ chip_line f None = refl
 chip_line f (Some k) = refl
 
 -- x before the first change contains tick 0
-pub level_runs_of : (level : Bit) (end width : ℕ) (cs : List Change)
+pub level_runs_of : (level : Option Bit) (end width : ℕ) (cs : List Change)
     → filter (is_level_run level end) (runs_begun end cs)
     ≡ filter (is_level_run level end) (runs_begun end (changes_from_zero width cs))
 unfolding runs_begun

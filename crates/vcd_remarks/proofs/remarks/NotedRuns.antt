@@ -29,7 +29,7 @@ each_same zero k f d less = absurd (omega (arith, less))
 each_same (suc n) zero f d less = refl
 each_same (suc n) (suc k) f d less = each_same n k f d (omega (arith, less))
 
-module _ (level : Bit) (end : ℕ) where
+module _ (level : Option Bit) (end : ℕ) where
   -- the ticks under a power of the runs of the level
   abbrev pub ticks_below : ℕ → List ValueRun → List ℕ
   ticks_below k rs = below k (filter (is_level_run level end) rs)

@@ -1,5 +1,5 @@
 -- What is found by a `deglitch` in the runs so far and in those that are left.
-use Rattle.std.proofs.Common.{◌≡◌, ℕ, ◌+◌, ◌<◌, ◌≤◌, ◌-◌, Bool, true, false, if◌then◌else◌, Option, Some, None}
+use Rattle.std.proofs.Common.{◌≡◌, ℕ, ◌+◌, ◌<◌, ◌≤◌, true, false, if◌then◌else◌, Option, Some, None}
 use Rattle.std.proofs.Common.{List, [], ◌∷◌, length, drop, get_or, refl, ap, sym, ◌∙◌, arith}
 use Rattle.vcd_core.specs.declared.bit.Bit.{Bit}
 use Rattle.vcd_core.specs.declared.wave.Change.{Change}
@@ -7,7 +7,7 @@ use Rattle.vcd_remarks.specs.declared.findings.found_spans.FoundSpans.{FoundSpan
 use Rattle.vcd_remarks.specs.declared.findings.found_spans.Span.{Span}
 use Rattle.vcd_remarks.specs.declared.remarks.deglitching.FoundRuns.{FoundRuns}
 use Rattle.vcd_remarks.specs.declared.remarks.deglitching.KeptRun.{KeptRun}
-use Rattle.vcd_remarks.specs.ValueRuns.{ValueRun, tick_before, run_begun, runs_begun, is_pulse}
+use Rattle.vcd_remarks.specs.ValueRuns.{ValueRun, tick_before, runs_begun, is_pulse}
 use Rattle.vcd_remarks.specs.inside.FoundTicks.{with_found}
 use Rattle.vcd_remarks.specs.inside.remarks.Deglitching.{with_runs, with_pulse, with_kept, kept_run, short_span}
 use Rattle.vcd_remarks.specs.inside.remarks.Deglitching.{AreFew, found_first, stretch_before, late_edge}

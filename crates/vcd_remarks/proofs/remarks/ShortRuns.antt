@@ -11,10 +11,11 @@ use Rattle.std.proofs.lemmas.Bool.{cases_lt, lt-ltb, le-ltb}
 use Rattle.std.proofs.lemmas.List.{length-map}
 use Rattle.std.proofs.lemmas.List.Sums.{length-filter}
 use Rattle.vcd_remarks.specs.declared.findings.found_ticks.FoundTicks.{FoundTicks}
-use Rattle.vcd_remarks.specs.ClockRuns.{count_below, is_often_reached, often_reached, short_among}
+use Rattle.vcd_remarks.specs.ClockRuns.{count_below, is_often_reached, short_among}
 use Rattle.vcd_remarks.specs.FoundTicks.{found_ticks}
 use Rattle.vcd_remarks.specs.ValueRuns.{ValueRun, ticks_of_run}
 use Rattle.vcd_remarks.specs.inside.ClockRuns as inside
+use Rattle.vcd_remarks.specs.inside.ClockRuns.{often_reached}
 
 -- one bound or another that is the same
 pub at_last : (p : ℕ → Bool) (m n : ℕ) → m ≡ n → count_below p m ≡ count_below p n
@@ -88,35 +89,34 @@ none_pass p (r ∷ rs) fails =
 
 -- ---- a test by the ticks below each power
 
-module _ (found : List FoundTicks) (rs : List ValueRun)
-    (each : (k : ℕ) → k < 65 → inside.at_power found k ≡ found_ticks (inside.below k rs))
-    (all : length rs ≡ (inside.at_power found 64).count) where
-  tests_agree : (k : ℕ) → k < 64 → inside.is_often_reached found k ≡ is_often_reached rs k
+module _ (found : List FoundTicks) (usual : List ValueRun) (are : inside.AreBelow found usual) where
+  tests_agree : (k : ℕ) → k < 64 → inside.is_often_reached found k ≡ is_often_reached usual k
   tests_agree k less =
-      let some = ap (λ (f : FoundTicks). f.count) (each k (omega (arith, less))) in
-      (λ i. nat_lt (sym all i / 4) (sym all i - some i))
-      ∙ ap (nat_lt (length rs / 4)) (sym (from_power k rs))
+      let some = ap (λ (f : FoundTicks). f.count) (are.each k (omega (arith, less))) in
+      (λ i. nat_lt (sym are.all i / 4) (sym are.all i - some i))
+      ∙ ap (nat_lt (length usual / 4)) (sym (from_power k usual))
 
-  pub counts_agree : count_below (inside.is_often_reached found) 64 ≡ often_reached rs
-  counts_agree = same_below (inside.is_often_reached found) (is_often_reached rs) 64 tests_agree
+  counts_agree : count_below (inside.is_often_reached found) 64 ≡ often_reached usual
+  counts_agree = same_below (inside.is_often_reached found) (is_often_reached usual) 64 tests_agree
 
-  -- the short ones
-  pub short_ones : (count : ℕ) → count ≡ count_below (inside.is_often_reached found) 64 → 2 ≤ count → count ≤ 64
-      → inside.at_power found (count - 2) ≡ found_ticks (short_among rs)
-  unfolding short_among inside.below
-  short_ones count is two most =
-      let n : ℕ = count - 2 in
-      let power : 2 ^ often_reached rs ≡ 4 * 2 ^ n =
-      ap (λ k. 2 ^ k) (sym (is ∙ counts_agree)) ∙ four_times n count (omega (arith, two)) in
-      each n (omega (arith, most))
-      ∙ ap (λ ts. found_ticks (map (λ r. r.first) ts))
-      (same_filter _ _ rs (λ r. quarter (ticks_of_run r) (2 ^ n) (2 ^ often_reached rs) power))
+  -- the short ones of other runs
+  module _ (others : List FoundTicks) (rs : List ValueRun) (below : inside.AreBelow others rs) (count : ℕ)
+      (is : count ≡ count_below (inside.is_often_reached found) 64) where
+    pub short_ones : 2 ≤ count → count ≤ 64
+        → inside.at_power others (count - 2) ≡ found_ticks (short_among usual rs)
+    unfolding short_among inside.below
+    short_ones two most =
+        let n : ℕ = count - 2 in
+        let power : 2 ^ often_reached usual ≡ 4 * 2 ^ n =
+        ap (λ k. 2 ^ k) (sym (is ∙ counts_agree)) ∙ four_times n count (omega (arith, two)) in
+        below.each n (omega (arith, most))
+        ∙ ap (λ ts. found_ticks (map (λ r. r.first) ts))
+        (same_filter _ _ rs (λ r. quarter (ticks_of_run r) (2 ^ n) (2 ^ often_reached usual) power))
 
-  pub none_short : (count : ℕ) → count ≡ count_below (inside.is_often_reached found) 64 → count < 2
-      → found_ticks [] ≡ found_ticks (short_among rs)
-  unfolding short_among
-  none_short count is few =
-      let power : 2 ^ often_reached rs ≤ 2 =
-      omega (arith, ap (λ k. 2 ^ k) (sym (is ∙ counts_agree)), at_most_two count few) in
-      ap (λ ts. found_ticks (map (λ r. r.first) ts))
-      (sym (none_pass _ rs (λ r. le-ltb (4 * ticks_of_run r) (2 ^ often_reached rs) (omega (arith, power)))))
+    pub none_short : count < 2 → found_ticks [] ≡ found_ticks (short_among usual rs)
+    unfolding short_among
+    none_short few =
+        let power : 2 ^ often_reached usual ≤ 2 =
+        omega (arith, ap (λ k. 2 ^ k) (sym (is ∙ counts_agree)), at_most_two count few) in
+        ap (λ ts. found_ticks (map (λ r. r.first) ts))
+        (sym (none_pass _ rs (λ r. le-ltb (4 * ticks_of_run r) (2 ^ often_reached usual) (omega (arith, power)))))

@@ -8,7 +8,6 @@ use Rattle.vcd_core.specs.declared.wave.Change.{Change}
 use Rattle.vcd_core.specs.Wave.{change}
 use Rattle.vcd_edit.specs.declared.edit.Edit.TheVariants.{Invert, Shift, Deglitch, Force}
 use Rattle.vcd_edit.proofs.worked.Records.{from, wire, capture, alone}
-use Rattle.vcd_remarks.specs.declared.findings.finding.Finding.{Finding}
 use Rattle.vcd_remarks.specs.declared.findings.finding_kind.FindingKind.TheVariants as kinds
 use Rattle.vcd_remarks.specs.EditFindings.{gaps, delayed_edges, ticks_taken_out, edit_findings}
 use Rattle.vcd_remarks.specs.Findings.{finding, span_finding, finding_text, words_in}

@@ -22,9 +22,11 @@ pub enum FindingKind {
     ClkShortLow,
     ClkShortHigh,
     MosiLost,
+    MosiShort,
     MosiNoSetup,
     MosiLate,
     MisoLost,
+    MisoShort,
     MisoNoSetup,
     MisoLate,
     CsLost,
@@ -39,7 +41,7 @@ pub enum FindingKind {
 }
 
 /// The words of each kind, which a remark shows.
-pub const FINDINGS: [(FindingKind, &str); 30] = [
+pub const FINDINGS: [(FindingKind, &str); 32] = [
     (FindingKind::PulsesRemoved, "deglitch: pulses removed"),
     (
         FindingKind::LateEdges,
@@ -69,7 +71,7 @@ pub const FINDINGS: [(FindingKind, &str); 30] = [
     (FindingKind::UartLost, "uart: the line becomes x or z"),
     (
         FindingKind::UartEarlyStart,
-        "uart: first fall after less than a frame of idle line, so perhaps within a frame",
+        "uart: first fall after less than a frame of idle line (within a frame, or inverted?)",
     ),
     (
         FindingKind::UartLongRuns,
@@ -93,6 +95,10 @@ pub const FINDINGS: [(FindingKind, &str); 30] = [
         "spi: MOSI becomes x or z while the chip is selected",
     ),
     (
+        FindingKind::MosiShort,
+        "spi: runs of MOSI much shorter than those of CLK, such as spikes",
+    ),
+    (
         FindingKind::MosiNoSetup,
         "spi: MOSI changes as it is sampled, so that its setup is 0 (is MODE right?)",
     ),
@@ -103,6 +109,10 @@ pub const FINDINGS: [(FindingKind, &str); 30] = [
     (
         FindingKind::MisoLost,
         "spi: MISO becomes x or z while the chip is selected",
+    ),
+    (
+        FindingKind::MisoShort,
+        "spi: runs of MISO much shorter than those of CLK, such as spikes",
     ),
     (
         FindingKind::MisoNoSetup,
@@ -125,7 +135,7 @@ pub const FINDINGS: [(FindingKind, &str); 30] = [
     (FindingKind::SdaLost, "i2c: SDA becomes x"),
     (
         FindingKind::BusCuts,
-        "i2c: starts and stops that do not come right after an acknowledge",
+        "i2c: starts and stops that do not come right after an acknowledge (is SCL named first?)",
     ),
     (FindingKind::BusStray, "i2c: bits outside transfers"),
     (

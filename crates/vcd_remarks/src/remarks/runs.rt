@@ -5,7 +5,6 @@ ghost use Rattle.vcd_core.specs.Contents.{signal_at};
 ghost use Rattle.vcd_core.specs.CaptureContents.{contents};
 ghost use Rattle.vcd_core.specs.Value.{all_x, letter_at};
 ghost use Rattle.vcd_remarks.specs.ValueRuns as runs;
-ghost use Rattle.vcd_remarks.specs.inside.remarks.Parts as inside;
 
 use vcd_core::{Bit, Capture, Change, Value};
 
@@ -26,16 +25,6 @@ pub fn x_value_at(capture: &Capture, signal: usize) -> Value
     match capture.signals().get(signal) {
         Some(found) => Value::filled(found.wave.width(), Bit::X),
         None => Value::filled(1, Bit::X),
-    }
-}
-
-/// Whether the first change is at tick 0.
-pub fn begins_at_zero(changes: &[Change]) -> bool
-    ensures { result ≡ inside.begins_at_zero changes.now }
-{
-    match changes {
-        [first, ..] => first.tick == 0,
-        [] => false,
     }
 }
 

@@ -1,18 +1,21 @@
 -- The copy with a mark is that of the marked file, without cuts or after them.
 use Rattle.std.proofs.Common.{◌≡◌, ◌∙◌, refl, sym, ap, subst, true, List, [], ◌∷◌, ℕ, length, arith}
+use Rattle.std.specs.Prelude.{Option}
 use Rattle.std.proofs.lemmas.Bool.Decides.{nat_tests}
 use Rattle.std.proofs.lemmas.Option.{IfSome_then}
 use Rattle.std.proofs.lemmas.Result.{on_ok_weaker}
 use Rattle.vcd_copy.specs.Copied.{IsCopy}
 use Rattle.vcd_copy.specs.Marks.{marked_rules, bytes_of_mark}
 use Rattle.vcd_copy.specs.MarkText.{piece_of_mark}
+use Rattle.vcd_copy.specs.declared.marking.Mark.{Mark}
+use Rattle.vcd_copy.proofs.shared.CopyFaults.{begun_as}
 use Rattle.vcd_text.specs.Grammar.{initial_state}
 use Rattle.vcd_copy.specs.Pieces.{Piece}
 use Rattle.vcd_amend.specs.Amendment.{Amendment}
 use Rattle.vcd_amend.specs.AmendedText.{amended_text}
 use Rattle.vcd_amend.specs.AmendedCopy.{amendment_rules}
 use Rattle.vcd_amend.specs.AmendmentContents.{amendment_contents}
-use Rattle.vcd_amend.specs.RetimedCopy.{IsAmendedAfterCuts, retimed_rules, is_cut_by}
+use Rattle.vcd_amend.specs.RetimedCopy.{IsAmendedAfterCuts, IsAmendedWithMark, retimed_rules, is_cut_by}
 use Rattle.vcd_amend.specs.declared.amendment.Amendment.{Amendment as HeldAmendment}
 use Rattle.vcd_amend.specs.declared.cut_ticks.CutTicks.{CutTicks}
 use Rattle.vcd_amend.proofs.amending.AnyLimit.{text_at}
@@ -38,43 +41,69 @@ amended_without_cuts limit [] a file text none copy = record {
 }
 amended_without_cuts limit (cut ∷ cuts) a file text none copy = absurd (cc)
 
+module _ (limit : ℕ) (cuts : List CutTicks) (held own : HeldAmendment) (same : held ≡ own) (mark : Option Mark)
+    (file text : List ℕ) where
+  abbrev a : Amendment
+  a = amendment_contents own
+
+  abbrev IsAmended : Type 0
+  IsAmended = IsAmendedWithMark limit (piece_of_mark mark) (is_cut_by cuts) a file text
+
+  abbrev mark_bytes : List ℕ
+  mark_bytes = bytes_of_mark (piece_of_mark mark)
+
+  -- the copy without cuts
+  uncut : length cuts ≡ 0
+      → IsCopy limit (marked_rules mark_bytes (amendment_rules (amendment_contents held) 0)) file text → IsAmended
+  uncut none copy =
+      let made = marked_copy limit (amendment_rules a 0) mark file text (amendment_marks a)
+      (subst (λ (held : HeldAmendment). IsCopy limit (marked_rules mark_bytes
+      (amendment_rules (amendment_contents held) 0)) file text) same copy) in
+      (made.0, made.1, amended_without_cuts limit cuts a made.0 text none made.2)
+
+  -- and after cuts
+  cut : (walk : List CutTicks) → walk ≡ cuts → IsCopy limit (marked_rules mark_bytes
+      (retimed_rules (is_cut_by walk) (amendment_rules (amendment_contents held) 0))) file text → IsAmended
+  cut walk walks copy =
+      let made = marked_copy limit (retimed_rules (is_cut_by cuts) (amendment_rules a 0)) mark file text
+      (retimed_marks (is_cut_by cuts) a)
+      (subst (λ (cs : List CutTicks). IsCopy limit (marked_rules mark_bytes
+      (retimed_rules (is_cut_by cs) (amendment_rules a 0))) file text) walks
+      (subst (λ (held : HeldAmendment). IsCopy limit (marked_rules mark_bytes
+      (retimed_rules (is_cut_by walk) (amendment_rules (amendment_contents held) 0))) file text) same copy)) in
+      (made.0, made.1, copy_is_amended_after_cuts limit (is_cut_by cuts) a made.0 text made.2)
+
 pub returns-then-is_empty-clause-amended : goal.returns-then-is_empty-clause-amended
 returns-then-is_empty-clause-amended g c = on_ok_weaker c.copy.result
     (λ copied. IfSome_then (g.R.Source.coming c.args.reader.now) (copied refl) (λ file is.
-    let (small, text, copy, appends) = is in
-    let a : Amendment = amendment_contents c.args.amendment.now in
-    let made = marked_copy c.args.limit (amendment_rules a 0) c.args.mark file text (amendment_marks a)
-    (subst (λ (held : HeldAmendment). IsCopy c.args.limit (marked_rules (bytes_of_mark (piece_of_mark c.args.mark))
-    (amendment_rules (amendment_contents held) 0)) file text) c.in_ok-amender.ensures.1 copy) in (
+    let (small, text, copy, appends) = is in (
       small,
-      made.0,
-      made.1,
       text,
-      amended_without_cuts c.args.limit c.args.cuts.now a made.0 text
-          (grind (arith, c.if-is_empty.true, c.is_empty.ensures, nat_tests)) made.2,
+      uncut c.args.limit c.args.cuts.now _ _ c.in_ok-amender.ensures.1 c.args.mark file text
+          (grind (arith, c.if-is_empty.true, c.is_empty.ensures, nat_tests)) copy,
       appends,
     ))) c.copy.ensures.copied
+
+pub returns-then-is_empty-clause-begun : goal.returns-then-is_empty-clause-begun
+returns-then-is_empty-clause-begun g c = begun_as _ _ _ _ _ _ _ c.copy.result (λ file text copy.
+    uncut c.args.limit c.args.cuts.now _ _ c.in_ok-amender.ensures.1 c.args.mark file text
+    (grind (arith, c.if-is_empty.true, c.is_empty.ensures, nat_tests)) copy) c.copy.ensures.begun
 
 pub returns-clause-amended : goal.returns-clause-amended
 returns-clause-amended g c = on_ok_weaker c.copy-2.result
     (λ copied. IfSome_then (g.R.Source.coming c.args.reader.now) (copied refl) (λ file is.
-    let (small, text, copy, appends) = is in
-    let a : Amendment = amendment_contents c.args.amendment.now in
-    let cut = is_cut_by c.args.cuts.now in
-    let made = marked_copy c.args.limit (retimed_rules cut (amendment_rules a 0)) c.args.mark file text
-    (retimed_marks cut a)
-    (subst (λ (cs : List CutTicks). IsCopy c.args.limit (marked_rules (bytes_of_mark (piece_of_mark c.args.mark))
-    (retimed_rules (is_cut_by cs) (amendment_rules a 0))) file text) c.in_ok-amender-2.ensures.2
-    (subst (λ (held : HeldAmendment). IsCopy c.args.limit (marked_rules (bytes_of_mark (piece_of_mark c.args.mark))
-    (retimed_rules (is_cut_by c.in_ok-amender-2.amender.walk) (amendment_rules (amendment_contents held) 0)))
-    file text) c.in_ok-amender-2.ensures.1 copy)) in (
+    let (small, text, copy, appends) = is in (
       small,
-      made.0,
-      made.1,
       text,
-      copy_is_amended_after_cuts c.args.limit cut a made.0 text made.2,
+      cut c.args.limit c.args.cuts.now _ _ c.in_ok-amender-2.ensures.1 c.args.mark file text
+          c.in_ok-amender-2.amender.walk c.in_ok-amender-2.ensures.2 copy,
       appends,
     ))) c.copy-2.ensures.copied
+
+pub returns-clause-begun : goal.returns-clause-begun
+returns-clause-begun g c = begun_as _ _ _ _ _ _ _ c.copy-2.result (λ file text copy.
+    cut c.args.limit c.args.cuts.now _ _ c.in_ok-amender-2.ensures.1 c.args.mark file text
+    c.in_ok-amender-2.amender.walk c.in_ok-amender-2.ensures.2 copy) c.copy-2.ensures.begun
 
 pub returns-clause-ended : goal.returns-clause-ended
 returns-clause-ended g c = on_ok_weaker c.copy-2.result (λ ended. ended refl) c.copy-2.ensures.ended

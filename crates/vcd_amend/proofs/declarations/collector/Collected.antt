@@ -1,6 +1,6 @@
 -- What one more item of a file adds to what was collected, and the first pieces, which end the declarations.
 use Rattle.std.proofs.Common.{◌≡◌, ◌∙◌, ℕ, List, [], ◌∷◌, ◌++◌, map, refl, sym, ap, subst, ◌⊎◌, inl, inr, Bool, true}
-use Rattle.std.proofs.Common.{false, not, ◌&&◌, append_assoc}
+use Rattle.std.proofs.Common.{false, not, ◌&&◌}
 use Rattle.std.specs.Prelude.{IsTrue, option_to_list, Some, Option, None, IfSome}
 use Rattle.std.proofs.lemmas.List.{map-append}
 use Rattle.std.proofs.lemmas.Bool.{false≢true}
@@ -8,7 +8,7 @@ use Rattle.vcd_core.specs.Decimal.{is_number, number_of}
 use Rattle.vcd_core.specs.declared.capture.ScopeName.{ScopeName}
 use Rattle.vcd_text.specs.Words.{words_of}
 use Rattle.vcd_text.specs.Items.{Item, entry, timescale, scope, upscope, variable, end_definitions, stamp, scalar}
-use Rattle.vcd_text.specs.Items.{vector, real_or_string, dump_word, other, spelling, spellings}
+use Rattle.vcd_text.specs.Items.{vector, real_or_string, dump_word, other, spelling}
 use Rattle.vcd_text.specs.Grammar.{ParseState, VariableDeclaration, initial_state, declaration_of, Allows, AllowsAll}
 use Rattle.vcd_text.specs.Grammar.{state_after, state_after_item, word_texts, Accepts, fits}
 use Rattle.vcd_copy.specs.Pieces.{Piece, state_of_pieces}
@@ -19,10 +19,9 @@ use Rattle.vcd_copy.specs.CopyEnds.{ReadFails}
 use Rattle.vcd_text.specs.MemoryErrors.{memory_error}
 use Rattle.vcd_text.specs.Refusals.{IsRefusal, no_memory}
 use Rattle.vcd_copy.specs.VariableWords.{IsVariable}
-use Rattle.vcd_text.proofs.shared.FirstItem.{one_item, one_rest}
 use Rattle.vcd_copy.proofs.shared.StatesOfPieces.{last_allowed, one_more, at_any_limit}
 use Rattle.vcd_text.proofs.shared.DeclaringWords.{declares}
-use Rattle.vcd_copy.proofs.pieces.Cuts.{spelling_some}
+use Rattle.vcd_copy.proofs.shared.SpelledItems.{first_items}
 use Rattle.vcd_amend.specs.DeclaredVariables.{declaration_of_variable}
 use Rattle.vcd_amend.specs.inside.declarations.Collector.{HasCollected}
 use Rattle.vcd_amend.specs.declared.declarations.collector.Collector.{Collector}
@@ -106,25 +105,6 @@ next_variable limit before p item code scopes space body taken is =
 
 -- ==== the variables of a file are those of its first pieces, once these have ended the declarations
 
--- ---- the first items
-
--- items whose words are the first of those of others
-first_items : (c : ParseState) (is js : List Item) (later : List (List ℕ)) → spellings is ++ later ≡ spellings js
-    → AllowsAll c is → AllowsAll c js → (rest : List Item) × (js ≡ is ++ rest) × AllowsAll (state_after c is) rest
-first_items c [] js later same a b = (js, refl, b)
-first_items c (i ∷ is) [] later same a b =
-    let some = spelling_some i in
-    let never : ◌≡◌ {A = List (List ℕ)} (((some.0 ∷ some.1) ++ spellings is) ++ later) [] =
-    ap (λ ws. (ws ++ spellings is) ++ later) (sym some.2) ∙ same in
-    absurd (cc)
-first_items c (i ∷ is) (j ∷ js) later same a b =
-    let all : spelling i ++ (spellings is ++ later) ≡ spelling j ++ spellings js =
-    sym (append_assoc (spelling i) (spellings is) later) ∙ same in
-    let one : i ≡ j = one_item c i j _ _ a.0.0 b.0.0 all in
-    let (rest, split, allowed) = first_items (state_after_item c i) is js later (one_rest i j _ _ one all) a.1
-    (rw one b.1) in
-    (rest, ap (λ x. x ∷ js) (sym one) ∙ ap (λ l. i ∷ l) split, allowed)
-
 after_both : (c : ParseState) (is js : List Item) → state_after c (is ++ js) ≡ state_after (state_after c is) js
 after_both c [] js = refl
 after_both c (i ∷ is) js = after_both (state_after_item c i) is js
@@ -168,7 +148,7 @@ all_declared limit m file state t a =
       | inl h ↦ h
       | inr h ↦ h
     ] in
-    let (rest, split, allowed) = first_items (initial_state limit) (piece_items t.pieces) a.items t.later
+    let (rest, split, words, allowed) = first_items (initial_state limit) (piece_items t.pieces) a.items t.later
     (sym t.words ∙ a.spelled) t.allowed a.allowed in
     h.declared ∙ sym (ap (λ (c : ParseState). c.declared) (at_any_limit limit t.pieces))
     ∙ sym (body_items (state_of_pieces limit t.pieces) rest (ended m.is_done refl h) allowed)

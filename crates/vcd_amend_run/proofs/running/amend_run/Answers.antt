@@ -3,15 +3,15 @@ use Rattle.vcd_core.specs.CaptureContents.{contents}
 use Rattle.vcd_amend.specs.DeclaredVariables.{declarations_of}
 use Rattle.vcd_amend_run.specs.inside.Running.{error_of_copy}
 use Rattle.vcd_amend_run.proofs.running.EndsOfRun.{ends_with, ends_with_output, ends_without_output, ends_at_copy}
-use Rattle.vcd_amend_run.proofs.running.EndsOfRun.{ends_unwritten, unwritten_with}
+use Rattle.vcd_amend_run.proofs.running.EndsOfRun.{ends_unwritten, error_ends, unwritten_with}
 use Rattle.vcd_amend_run.proofs.running.RemarkedRun.{line_remarks_alone, with_output_remarks}
 use Rattle.vcd_amend_run.proofs.running.amend_run.Goals as goal
 
 pub returns-in_err-edited-in-Some-clause-ends : goal.returns-in_err-edited-in-Some-clause-ends
 returns-in_err-edited-in-Some-clause-ends g c =
     rw (c.in-Some.is) (ends_with c.from_residual.result c.in_err-edited-in-Some.field-0.0 c.args.options.now
-    _ _ _ _ c.from_residual.ensures.1
-    (c.in_err-edited-in-Some.ensures.fails (Some _) refl (refl, c.requires.out_ready c.in-Some.out c.in-Some.is)))
+    _ _ _ _ c.from_residual.ensures.1 (error_ends c.args.options.now _ _ _ _ c.in_err-edited-in-Some.field-0.0
+    (c.in_err-edited-in-Some.ensures.fails (Some _) refl (refl, c.requires.out_ready c.in-Some.out c.in-Some.is))))
 
 pub returns-in_err-refuse_line-in-Some-clause-ends : goal.returns-in_err-refuse_line-in-Some-clause-ends
 returns-in_err-refuse_line-in-Some-clause-ends g c =
@@ -28,12 +28,13 @@ pub returns-in_err-copy_amended-in-Some-clause-ends : goal.returns-in_err-copy_a
 returns-in_err-copy_amended-in-Some-clause-ends g c =
     let e = c.in_ok-edited-in-Some.edited in
     let fails = rw (c.in_ok-edited-in-Some.ensures.copy_kept) at c.in_err-copy_amended-in-Some.ensures.fails in
+    let begun = rw (c.in_ok-edited-in-Some.ensures.copy_kept) at c.in_err-copy_amended-in-Some.ensures.begun in
     rw (c.in-Some.is) (ends_with c.from_residual-in_err-copy_amended-in-Some.result
     (error_of_copy c.in_err-copy_amended-in-Some.field-0.0) c.args.options.now _ _ _ _
     c.from_residual-in_err-copy_amended-in-Some.ensures.1
-    (ends_at_copy c.args.options.now.depth _ _ _ (declarations_of e.declared.items)
-    (contents e.first) e.origins.items e.cuts.items
-    e.session.now e.refused _ c.in_err-copy_amended-in-Some.field-0.0 c.in_ok-edited-in-Some.ensures.edited fails))
+    (ends_at_copy c.args.options.now _ _ _ (declarations_of e.declared.items) (contents e.first) e.origins.items
+    e.cuts.items e.session.now e.refused e.edit_lines.items _ c.in_err-copy_amended-in-Some.field-0.0
+    c.in_ok-edited-in-Some.ensures.edited c.in_ok-edited-in-Some.ensures.lines fails begun))
 
 pub returns-in_ok-copy_amended-in-Some-clause-ends : goal.returns-in_ok-copy_amended-in-Some-clause-ends
 returns-in_ok-copy_amended-in-Some-clause-ends g c =

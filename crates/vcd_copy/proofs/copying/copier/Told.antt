@@ -2,12 +2,11 @@
 use Rattle.std.proofs.Common.{◌≡◌, ◌∙◌, inl, inr, ℕ, ◌<◌, Bool, true, false, List, [], ◌∷◌, ◌++◌, length, drop}
 use Rattle.std.proofs.Common.{refl, sym, ap, ap₂, arith, append_assoc}
 use Rattle.std.specs.Prelude.{Option, Some, None, IfSome}
-use Rattle.std.specs.List.{All, list_all}
+use Rattle.std.specs.List.{All}
 use Rattle.std.specs.Io.KnownBytes.{Consumes}
 use Rattle.std.proofs.lemmas.List.{append-nil}
 use Rattle.std.proofs.lemmas.List.Elements.{All-nil, All-head, All-tail}
-use Rattle.std.proofs.lemmas.Bool.{and_parts, false≢true}
-use Rattle.vcd_core.specs.Word.{is_white_space}
+use Rattle.std.proofs.lemmas.Bool.{false≢true}
 use Rattle.vcd_core.specs.declared.device.Sink as sinks
 use Rattle.vcd_text.specs.Words.{WordOnLine}
 use Rattle.vcd_text.specs.Items.{spellings}
@@ -21,7 +20,7 @@ use Rattle.vcd_copy.specs.declared.copying.copier.Copier.{Copier}
 use Rattle.vcd_text.specs.declared.reading.parser.Parser.{Parser}
 use Rattle.vcd_text.specs.declared.writing.output.Output.{Output}
 use Rattle.vcd_copy.proofs.pieces.Bytes.{texts, texts_are, is_end, space_first, both_parts}
-use Rattle.vcd_copy.proofs.pieces.Cuts.{SpellsItem, SpaceIsWhite, HasSomeSpace}
+use Rattle.vcd_copy.proofs.pieces.Cuts.{SpellsItem, SpaceIsWhite, HasSomeSpace, white_ends}
 use Rattle.vcd_copy.proofs.copying.pieces.OneWordMore.{no_texts, space_ends}
 use Rattle.vcd_copy.proofs.copying.copier.CopiedChunks.{whole_copy}
 use Rattle.vcd_text.specs.inside.reading.Parser.{is_complete}
@@ -51,7 +50,7 @@ words_of_pieces (p ∷ ps) spelled white apart =
     (words_of_pieces ps (All-tail SpellsItem p ps spelled) later (later_apart ps apart))
 
 -- and of what comes after them
-begins_with : (ps : List Piece) (more : List ℕ) → IsCut (piece_bytes ps) ps []
+pub begins_with : (ps : List Piece) (more : List ℕ) → IsCut (piece_bytes ps) ps []
     → (0 < length ps → is_end more ≡ true) → texts (piece_bytes ps ++ more) ≡ spellings (piece_items ps) ++ texts more
 begins_with [] more cut ends = refl
 begins_with (p ∷ ps) more cut ends =
@@ -60,7 +59,7 @@ begins_with (p ∷ ps) more cut ends =
 
 -- ---- the file so far
 
-next_ends : {limit : ℕ} {rules : CopyRules} {seen : List Piece → Type 0} {written : List ℕ → Type 0} {m : Parser}
+pub next_ends : {limit : ℕ} {rules : CopyRules} {seen : List Piece → Type 0} {written : List ℕ → Type 0} {m : Parser}
     {held bytes : List ℕ} {len : ℕ} (h : HasCopied limit rules seen written m held len bytes) (after : List ℕ)
     → has_complete_words bytes ≡ true → 0 < length h.pieces
     → is_end ((h.space ++ (h.body ++ h.gap)) ++ after) ≡ true
@@ -110,10 +109,6 @@ come_so_far P (Some file) None bytes consumes each = absurd consumes
 come_so_far P (Some file) (Some left) bytes consumes each = rw consumes (each left)
 
 -- ---- the whole file
-
-white_ends : (tail : List ℕ) → list_all is_white_space tail ≡ true → is_end tail ≡ true
-white_ends [] white = refl
-white_ends (b ∷ bs) white = (and_parts (is_white_space b) (list_all is_white_space bs) white).0
 
 -- an amender was told of all pieces
 copy_told : {limit : ℕ} {rules : CopyRules} {file text : List ℕ} (told : List Piece → Type 0)

@@ -1,6 +1,7 @@
 use Rattle.std.proofs.Common.{◌≡◌, refl, false, rules}
 use Rattle.std.proofs.lemmas.Result.{on_ok_weaker}
-use Rattle.vcd_copy.proofs.copying.Ends.{copy_taken, copy_fails, some_held, some_taken, when_copied, when_ok}
+use Rattle.vcd_copy.proofs.copying.Ends.{copy_taken, copy_fails, copy_begun, some_held, some_taken, when_copied}
+use Rattle.vcd_copy.proofs.copying.Ends.{when_ok}
 use Rattle.vcd_copy.proofs.copying.copy.Goals as goal
 
 pub returns-clause-copied : goal.returns-clause-copied
@@ -27,6 +28,15 @@ returns-clause-fails g c =
     c.copy_all-copied.ensures.fails c.end_copy.ensures.read c.end_copy.ensures.wrote
     c.copy_all-copied.ensures.not_failed (some_held
     c.in_ok-unsent.ensures.empty refl c.copy_all-copied.ensures.more c.send_buffer.ensures.written)
+    c.end_copy.ensures.kept)
+
+pub returns-clause-begun : goal.returns-clause-begun
+returns-clause-begun g c =
+    let same : c.end_copy.new.writer ≡ c.writer-1.given.0 = search rules in
+    rw same at (copy_begun _ c.copy_all-copied.new.output c.send_buffer.new.output _
+    (g.A.Amender.rules (g.A.Amender.given c.args.amender.now)) (g.R.Source.coming c.args.reader.now)
+    c.end_copy.new.writer c.copy_all-copied.result c.end_copy.result c.end_copy.ensures.wrote
+    c.in_ok-unsent.ensures.empty refl c.copy_all-copied.ensures.begun c.send_buffer.ensures.written
     c.end_copy.ensures.kept)
 
 pub returns-clause-told : goal.returns-clause-told

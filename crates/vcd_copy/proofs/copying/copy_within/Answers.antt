@@ -8,9 +8,10 @@ use Rattle.vcd_text.specs.declared.fault.Fault.TheVariants as faults
 use Rattle.vcd_text.specs.declared.fault.ReadError.{ReadError}
 use Rattle.vcd_text.specs.Refusals.{IsRefusal}
 use Rattle.vcd_text.specs.inside.reading.Part.{unheard}
-use Rattle.vcd_copy.specs.inside.Copying.{TookCopy}
+use Rattle.vcd_copy.specs.inside.Copying.{TookCopy, TookBeginning}
 use Rattle.vcd_text.proofs.shared.Chunks.{at_end, of_all, consumes_none}
 use Rattle.vcd_text.proofs.shared.Chunks.{is_no_file_failure}
+use Rattle.vcd_copy.proofs.copying.copier.BegunCopies.{begun_file, whole_begins}
 use Rattle.vcd_copy.proofs.copying.copier.CopiedChunks.{nothing_copied, ok_weaker, both_some}
 use Rattle.std.proofs.KnownBytes.{Consumes-trans}
 use Rattle.vcd_text.proofs.shared.EmittedParts.{more_none, more_both}
@@ -169,3 +170,38 @@ returns-then-failed-clause-more g c = more_both c.loop-copier.invariant.4 c.take
 pub returns-clause-more : goal.returns-clause-more
 returns-clause-more g c = more_both c.loop-copier.invariant.4 (more_both c.take_chunk.ensures.more
     c.finish.ensures.more)
+
+pub returns-then-failed-clause-begun : goal.returns-then-failed-clause-begun
+returns-then-failed-clause-begun g c =
+    let coming = g.R.Source.coming c.args.reader.now in
+    let left = g.R.Source.coming c.take_chunk.new.source in
+    let (bytes, came, h) = c.loop-copier.invariant.2 in
+    let (chunk, second, more) = c.in_ok-take_chunk.ensures.copied c.args.limit c.args.output.now bytes
+    (rw c.loop-copier.invariant.3 h) in
+    let all = Consumes-trans coming (g.R.Source.coming c.loop-copier.reader) left bytes chunk came second in
+    come_so_far _ coming left (bytes ++ chunk) all (begun_file (rw c.loop-copier.invariant.3 at more))
+
+pub returns-then-is_done-clause-begun : goal.returns-then-is_done-clause-begun
+returns-then-is_done-clause-begun g c =
+    let coming = g.R.Source.coming c.args.reader.now in
+    let left = g.R.Source.coming c.take_chunk.new.source in
+    let (bytes, came, h) = c.loop-copier.invariant.2 in
+    let (chunk, second, more) = c.in_ok-take_chunk.ensures.copied c.args.limit c.args.output.now bytes
+    (rw c.loop-copier.invariant.3 h) in
+    let all = Consumes-trans coming (g.R.Source.coming c.loop-copier.reader) left bytes chunk came second in
+    come_so_far _ coming left (bytes ++ chunk) all (begun_file (rw c.loop-copier.invariant.3 at more))
+
+pub returns-clause-begun : goal.returns-clause-begun
+returns-clause-begun g c =
+    let coming = g.R.Source.coming c.args.reader.now in
+    let left = g.R.Source.coming c.take_chunk.new.source in
+    let (bytes, came, h) = c.loop-copier.invariant.2 in
+    let (chunk, second, more) = c.in_ok-take_chunk.ensures.copied c.args.limit c.args.output.now bytes
+    (rw c.loop-copier.invariant.3 h) in
+    let rules = c.in_ok-take_chunk.ensures.same ∙ c.loop-copier.invariant.3 in
+    let all = Consumes-trans coming (g.R.Source.coming c.loop-copier.reader) left bytes chunk came second in
+    ok_weaker c.finish.result c.finish.ensures.copied (λ copies. of_all coming left (bytes ++ chunk)
+    (TookBeginning g.W.Sink c.args.limit (g.A.Amender.rules (g.A.Amender.given c.args.amender.now)) c.args.output.now
+    c.finish.new.output) all (c.in_ok-take_chunk.ensures.ended c.if-branch.false)
+    (whole_begins (rw rules at (copies c.args.limit c.args.output.now (bytes ++ chunk)
+    (rw c.in_ok-take_chunk.ensures.same more)))))

@@ -28,7 +28,8 @@ use Rattle.vcd_copy.proofs.pieces.Bytes.{texts_are}
 use Rattle.vcd_copy.proofs.pieces.Cuts.{SpellsItem}
 use Rattle.vcd_copy.proofs.copying.pieces.EndedItems.{nothing_open, something_open, opened_as, ended, stands_at}
 use Rattle.vcd_copy.proofs.copying.pieces.EndedItems.{IsShownAs, free_if}
-use Rattle.vcd_copy.proofs.copying.pieces.OneWordMore.{not_complete, no_texts, shuffled, both_held, copied_more}
+use Rattle.vcd_copy.proofs.copying.pieces.OneWordMore.{not_complete, no_texts, shuffled, both_held}
+use Rattle.vcd_copy.proofs.shared.CopiedPieces.{copied_one}
 use Rattle.vcd_copy.proofs.copying.pieces.OneWordMore.{with_words_more, with_place}
 use Rattle.vcd_copy.proofs.copying.pieces.OneWordMore.{cut_more, bytes_more, reaches_more, begins, goes_further}
 
@@ -295,7 +296,7 @@ module _ (limit : ℕ) (rules : CopyRules) (seen_before : List Piece → Type 0)
               ≡ copied_pieces rules [] (h.pieces ++ piece ∷ []) ++ []
           emitted = with_place (stands_open old.item) (copied_pieces rules [] h.pieces)
               (rules.before_others h.pieces) (h.space ++ h.body) held1 _ (copied_piece rules h.pieces piece) all_held
-              stands_whole ∙ sym (copied_more rules [] h.pieces piece)
+              stands_whole ∙ sym (copied_one rules [] h.pieces piece)
               ∙ sym (append-nil (copied_pieces rules [] (h.pieces ++ piece ∷ [])))
 
     -- what is held of the piece that the word ends, if it ends one

@@ -29,18 +29,18 @@ use Rattle.vcd_text.proofs.shared.OneOf.{by_among, by_one_of}
 use Rattle.vcd_text.proofs.shared.FirstItem.{first_item, item_is, scope_of, before_end}
 
 -- the item of words is the first item of them
-item_of_words : (c : ParseState) (i : Item) (b : Bool) (ws : List (List ℕ)) → IsTrue (fits c i) → c.in_body ≡ b
+pub item_of_words : (c : ParseState) (i : Item) (b : Bool) (ws : List (List ℕ)) → IsTrue (fits c i) → c.in_body ≡ b
     → spelling i ≡ ws → first_item b ws ≡ i
 item_of_words c i b ws f here spelled = ap (λ t. first_item t ws) (sym here) ∙ ap (first_item c.in_body) (sym spelled
     ∙ sym (append-nil (spelling i))) ∙ item_is c i [] f
 
-entry_stands : (kind : HeaderKind) (ws : List (List ℕ)) → may_be_amended (first_item false
+pub entry_stands : (kind : HeaderKind) (ws : List (List ℕ)) → may_be_amended (first_item false
     (header_word kind ∷ ws)) ≡ false
 entry_stands Date ws = refl
 entry_stands Version ws = refl
 entry_stands Comment ws = refl
 
-scope_stands : (ws : List (List ℕ)) → may_be_amended (scope_of ws) ≡ false
+pub scope_stands : (ws : List (List ℕ)) → may_be_amended (scope_of ws) ≡ false
 scope_stands [] = refl
 scope_stands (w ∷ ws) = refl
 
@@ -140,7 +140,7 @@ other_is : (b : Bool) (w : List ℕ) (ws : List (List ℕ)) → is_other b w ≡
 other_is false w ws is = other_early w ws is
 other_is true w ws is = other_late w ws is
 
-other_stands : (b : Bool) (w : List ℕ) (ws : List (List ℕ)) → is_other b w ≡ true
+pub other_stands : (b : Bool) (w : List ℕ) (ws : List (List ℕ)) → is_other b w ≡ true
     → may_be_amended (first_item b (w ∷ ws)) ≡ false
 other_stands b w ws is = ap may_be_amended (other_is b w ws is).2
 

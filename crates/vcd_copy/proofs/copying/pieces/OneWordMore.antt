@@ -13,7 +13,7 @@ use Rattle.vcd_core.specs.Word.{is_white_space}
 use Rattle.vcd_text.specs.Words.{WordOnLine, words_of}
 use Rattle.vcd_text.specs.Grammar.{initial_state, state_after, state_after_item, AllowsAll, Allows, word_texts}
 use Rattle.vcd_copy.specs.Pieces.{state_of_pieces, Piece, IsCut}
-use Rattle.vcd_copy.specs.Copied.{CopyRules, copied_piece, copied_pieces, piece_items}
+use Rattle.vcd_copy.specs.Copied.{piece_items}
 use Rattle.vcd_text.specs.inside.Words.{has_complete_words, words_from}
 use Rattle.vcd_copy.specs.inside.Copying.{IsOpenItem}
 use Rattle.vcd_copy.specs.Pieces.{piece_bytes}
@@ -95,17 +95,6 @@ with_place true copied first so_far held own place is whole =
 with_place false copied first so_far held own place is whole = ap (λ l. l ++ place) (append-nil copied)
 
 -- ---- pieces
-
-pub copied_more : (r : CopyRules) (before ps : List Piece) (p : Piece)
-    → copied_pieces r before (ps ++ p ∷ []) ≡ copied_pieces r before ps ++ copied_piece r (before ++ ps) p
-unfolding copied_pieces
-copied_more r before [] p = append-nil (copied_piece r before p) ∙ ap (λ l. copied_piece r l p) (sym
-    (append-nil before))
-copied_more r before (q ∷ ps) p =
-    ap (λ l. copied_piece r before q ++ l) (copied_more r (before ++ q ∷ []) ps p
-    ∙ ap (λ l. copied_pieces r (before ++ q
-    ∷ []) ps ++ copied_piece r l p) (append_assoc before (q ∷ []) ps)) ∙ sym (append_assoc (copied_piece r before q)
-    (copied_pieces r (before ++ q ∷ []) ps) (copied_piece r (before ++ q ∷ ps) p))
 
 all_more : {A : Type 0} (P : A → Type 0) (xs : List A) (y : A) → All P xs → P y → All P (xs ++ y ∷ [])
 all_more P [] y all here = All-cons P y [] here (All-nil P)

@@ -1,7 +1,7 @@
 -- The comment of a part: its words are words, and its bytes spell it.
 use Rattle.std.proofs.Common.{◌≡◌, ℕ, ◌∙◌, ◌<◌, ◌^◌, ◌==◌, Bool, true, false, not, List, [], ◌∷◌, ◌++◌}
 use Rattle.std.proofs.Common.{refl, arith, if◌then◌else◌, decimal, codes, length, nat_lt}
-use Rattle.std.specs.List.{list_all}
+use Rattle.std.specs.List.{list_all, prefix_len, suffix_len}
 use Rattle.std.specs.Str.{bytes_eq}
 use Rattle.std.specs.Char.{is_ascii_digit}
 use Rattle.std.proofs.lemmas.Bool.{and_from, and_parts, and_right, or_from, false_from_ne_true, not_from_false}
@@ -20,6 +20,7 @@ use Rattle.vcd_text.proofs.read_back.Words.{is_unbroken}
 use Rattle.vcd_text.proofs.read_back.WholeText.{words_are_unbroken, with_end_unbroken}
 use Rattle.vcd_text.proofs.shared.ItemTests.{all_weaker}
 use Rattle.vcd_copy.proofs.pieces.Bytes.{texts_are, joined_words}
+use Rattle.vcd_copy.proofs.shared.JoinedWords.{joined_tight}
 use Rattle.vcd_part.specs.PartPieces.{comment_words, comment_piece, last_word, bounded_count}
 use Rattle.vcd_part.proofs.laws.states.Windows.{IsInOrder}
 
@@ -77,3 +78,6 @@ module _ (w : TickRange) (order : IsInOrder w) (a b : ℕ) where
 
     pub comment_spelled : word_texts (words_of piece.body) ≡ spelling piece.item
     comment_spelled = texts_are piece.body ∙ joined_words (spelling piece.item) all_unbroken
+
+    pub comment_tight : (prefix_len is_white_space piece.body ≡ 0) × (suffix_len is_white_space piece.body ≡ 0)
+    comment_tight = joined_tight (spelling piece.item) (omega arith) all_unbroken

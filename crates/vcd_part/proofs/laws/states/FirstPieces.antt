@@ -29,7 +29,8 @@ use Rattle.vcd_part.specs.PartPieces.{on_own_line}
 use Rattle.vcd_part.proofs.laws.signals.SameStatus.{HasOneStatus, IsIn, in_any, bytes_same, same_bytes, in_filter}
 use Rattle.vcd_part.proofs.laws.signals.SameStatus.{filter_in}
 use Rattle.vcd_part.proofs.laws.signals.SignalValues.{value, letters_of, after_item, last_passes, of_last}
-use Rattle.vcd_part.proofs.laws.states.PartStates.{change_code, IsKept, kept_again, same_changes, in_part}
+use Rattle.vcd_part.proofs.laws.states.PartStates.{IsKept, kept_again, same_changes, in_part}
+use Rattle.vcd_part.specs.StandsInPart.{change_code}
 use Rattle.vcd_part.proofs.laws.states.PartStates.{change_stands}
 use Rattle.vcd_part.proofs.laws.states.PartStates.{code_of_change, change_state}
 

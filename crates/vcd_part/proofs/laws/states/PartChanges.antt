@@ -17,7 +17,8 @@ use Rattle.vcd_part.specs.PartPieces.{is_change_of, is_used, last_such, is_up_to
 use Rattle.vcd_part.proofs.laws.signals.SameStatus.{HasOneStatus, in_any, bytes_same}
 use Rattle.vcd_part.proofs.laws.states.Windows.{past_is, within_is, not_within_is}
 use Rattle.vcd_part.proofs.laws.signals.SignalValues.{value, letters_of, after_item, last_with, last_passes, of_last}
-use Rattle.vcd_part.proofs.laws.states.PartStates.{at, change_code, IsKept, kept_again, same_changes, in_part}
+use Rattle.vcd_part.proofs.laws.states.PartStates.{at, IsKept, kept_again, same_changes, in_part}
+use Rattle.vcd_part.specs.StandsInPart.{change_code}
 use Rattle.vcd_part.proofs.laws.states.PartStates.{change_stands}
 use Rattle.vcd_part.proofs.laws.states.PartStates.{change_again, code_of_change, change_state}
 

@@ -17,6 +17,7 @@ use Rattle.vcd_text.proofs.shared.ItemTests.{passes}
 use Rattle.vcd_part.specs.declared.request.Request.{Request}
 use Rattle.vcd_part.specs.Requests.{keeps}
 use Rattle.vcd_part.specs.PartPieces.{has_signal, is_change_of, is_used}
+use Rattle.vcd_part.specs.StandsInPart.{change_code}
 use Rattle.vcd_part.proofs.laws.signals.SameStatus.{HasOneStatus, status, first_of, first_found, same_bytes}
 use Rattle.vcd_part.proofs.laws.signals.SameStatus.{any_in, filter_in}
 use Rattle.vcd_part.proofs.laws.signals.SameStatus.{status_filtered}
@@ -25,13 +26,6 @@ use Rattle.vcd_part.proofs.laws.signals.SignalValues.{IsSignal, signal_has}
 -- a state with another tick and other value changes
 abbrev pub at : ParseState → List ValueChange → ℕ → ParseState
 at s vs n = record s { value_changes = vs; tick = n }
-
--- the code of a change
-abbrev pub change_code : Item → Option (List ℕ)
-change_code (scalar digit code) = Some code
-change_code (vector first digits code) = Some code
-change_code (real_or_string first text code) = Some code
-change_code i = None
 
 -- ---- digits for a variable of the same status
 

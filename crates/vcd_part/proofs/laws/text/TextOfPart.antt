@@ -2,7 +2,7 @@
 use Rattle.std.proofs.Common.{◌≡◌, ℕ, ◌∙◌, ◌≤◌, Bool, true, false, not, List, [], ◌∷◌, ◌++◌, refl}
 use Rattle.std.proofs.Common.{arith, All, drop, decimal, if◌then◌else◌, None}
 use Rattle.std.specs.Prelude.{Result, Ok, Err, option_to_list}
-use Rattle.std.specs.List.{list_all, list_any}
+use Rattle.std.specs.List.{list_all, list_any, prefix_len, suffix_len}
 use Rattle.std.proofs.lemmas.List.Elements.{All-nil, All-cons, All-append, All-drop}
 use Rattle.vcd_core.specs.Word.{is_white_space}
 use Rattle.vcd_core.specs.declared.capture.TheConstants.{END_LIMIT}
@@ -17,7 +17,7 @@ use Rattle.vcd_text.specs.declared.reading.choice.TickRange.{TickRange}
 use Rattle.vcd_text.proofs.read_back.Words.{is_unbroken}
 use Rattle.vcd_text.proofs.read_back.WholeText.{one_word, longer_unbroken, decimal_unbroken}
 use Rattle.vcd_copy.proofs.pieces.Bytes.{texts_are, joined_words}
-use Rattle.vcd_copy.proofs.pieces.Cuts.{SpellsItem, SpaceIsWhite, HasSomeSpace}
+use Rattle.vcd_copy.proofs.pieces.Cuts.{SpellsItem, IsTight, SpaceIsWhite, HasSomeSpace, word_ends}
 use Rattle.vcd_copy.proofs.shared.SpelledItems.{bytes_spell}
 use Rattle.vcd_part.specs.declared.request.Request.{Request}
 use Rattle.vcd_part.specs.PartPieces.{part_after, part_pieces, pieces_of_step, on_own_line}
@@ -27,7 +27,7 @@ use Rattle.vcd_part.specs.declared.request.Refusal.{Refusal}
 use Rattle.vcd_part.specs.Requests.{keeps, decide}
 use Rattle.vcd_part.proofs.laws.EmptyStamps.{all_without, later_without}
 use Rattle.vcd_part.proofs.laws.states.StatesInTurn.{without_limit, next_state}
-use Rattle.vcd_part.proofs.laws.states.CommentWords.{comment_spelled}
+use Rattle.vcd_part.proofs.laws.states.CommentWords.{comment_spelled, comment_tight}
 use Rattle.vcd_part.proofs.laws.text.PiecesOfPart.{all_after}
 
 -- ---- the word of a stamp
@@ -36,12 +36,17 @@ unbroken_has_no_space : (w : List ℕ) → is_unbroken w ≡ true → list_all (
 unbroken_has_no_space [] unbroken = refl
 unbroken_has_no_space (b ∷ bs) unbroken = unbroken
 
+stamp_unbroken : (u : ℕ) → u ≤ END_LIMIT → is_unbroken (35 ∷ decimal u) ≡ true
+stamp_unbroken u most = longer_unbroken 35 (decimal u) refl
+    (unbroken_has_no_space (decimal u) (decimal_unbroken u (omega (arith, most))))
+
 stamp_texts : (u : ℕ) → u ≤ END_LIMIT → word_texts (words_of (35 ∷ decimal u)) ≡ (35 ∷ decimal u) ∷ []
-stamp_texts u most = texts_are (35 ∷ decimal u) ∙ joined_words ((35 ∷ decimal u) ∷ []) (one_word (35 ∷ decimal u)
-    (longer_unbroken 35 (decimal u) refl (unbroken_has_no_space (decimal u) (decimal_unbroken u (omega (
-      arith,
-      most,
-    ))))))
+stamp_texts u most = texts_are (35 ∷ decimal u)
+    ∙ joined_words ((35 ∷ decimal u) ∷ []) (one_word (35 ∷ decimal u) (stamp_unbroken u most))
+
+stamp_tight : (u : ℕ) → u ≤ END_LIMIT → (prefix_len is_white_space (35 ∷ decimal u) ≡ 0)
+    × (suffix_len is_white_space (35 ∷ decimal u) ≡ 0)
+stamp_tight u most = (refl, (word_ends (35 ∷ decimal u) (stamp_unbroken u most)).ends)
 
 -- ---- white space stands before each piece of the part after the first
 
@@ -130,3 +135,19 @@ module _ (r : Request) (limit : ℕ) (file : List ℕ) (pieces : List Piece) (ta
   part_spelled = texts_are (piece_bytes (part_pieces r pieces) ++ tail)
       ∙ bytes_spell tail cut.end (part_pieces r pieces)
       (later_without HasSomeSpace whole (apart_again r limit pieces allowed cut.apart)) part_spaces part_spells
+
+  part_tight : All IsTight (part_pieces r pieces)
+  part_tight = all_without IsTight whole (all_after r IsTight IsTight (λ p u most is. stamp_tight u most)
+      (λ u most. stamp_tight u most) (λ p is. is) (λ w a b p order is. comment_tight w order a b p.space) [] pieces
+      (initial_state limit) refl allowed (All-nil IsTight) cut.tight cut.tight)
+
+  -- the bytes are cut into the pieces
+  pub part_is_cut : IsCut (piece_bytes (part_pieces r pieces) ++ tail) (part_pieces r pieces) tail
+  part_is_cut = record {
+    whole = refl;
+    spelled = part_spells;
+    tight = part_tight;
+    spaces = part_spaces;
+    apart = later_without HasSomeSpace whole (apart_again r limit pieces allowed cut.apart);
+    end = cut.end;
+  }

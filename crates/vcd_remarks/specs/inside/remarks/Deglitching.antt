@@ -11,7 +11,7 @@ use Rattle.vcd_remarks.specs.declared.remarks.deglitching.FoundRuns.{FoundRuns}
 use Rattle.vcd_remarks.specs.declared.remarks.deglitching.KeptRun.{KeptRun}
 use Rattle.vcd_remarks.specs.FoundTicks.{span, found_spans}
 use Rattle.vcd_remarks.specs.ValueRuns.{ValueRun, tick_before, runs_begun, ticks_of_run, is_pulse}
-use Rattle.vcd_remarks.specs.inside.FoundTicks.{with_span, with_found, finding_of_kind}
+use Rattle.vcd_remarks.specs.inside.FoundTicks.{with_found, finding_of_kind}
 
 -- a run as a span, if it has fewer ticks
 abbrev pub short_span : (ticks : ℕ) → ValueRun → Option Span

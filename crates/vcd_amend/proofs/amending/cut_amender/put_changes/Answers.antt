@@ -9,7 +9,7 @@ use Rattle.vcd_amend.specs.declared.amending.held_changes.HeldChange.{HeldChange
 use Rattle.vcd_amend.specs.inside.amending.FileAmender.{HasSeen}
 use Rattle.vcd_amend.specs.inside.amending.HeldChanges.{IsChangePiece}
 use Rattle.vcd_amend.specs.inside.amending.CutAmender.{rules_of}
-use Rattle.vcd_amend.proofs.retimed.Copies.{copied_more}
+use Rattle.vcd_copy.proofs.shared.CopiedPieces.{copied_more}
 use Rattle.vcd_amend.proofs.amending.CutPieces.{piece_at, as_many, spelled_as}
 use Rattle.vcd_amend.proofs.amending.cut_amender.put_changes.Goals as goal
 

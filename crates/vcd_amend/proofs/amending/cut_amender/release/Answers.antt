@@ -12,7 +12,7 @@ use Rattle.vcd_amend.specs.declared.amending.held_changes.HeldChange.{HeldChange
 use Rattle.vcd_amend.specs.inside.amending.FileAmender.{HasSeen}
 use Rattle.vcd_amend.specs.inside.amending.HeldChanges.{ArePieces, released}
 use Rattle.vcd_amend.specs.inside.amending.CutAmender.{rules_of}
-use Rattle.vcd_amend.proofs.retimed.Copies.{copied_more}
+use Rattle.vcd_copy.proofs.shared.CopiedPieces.{copied_more}
 use Rattle.vcd_amend.proofs.amending.HeldPieces.{no_pieces, no_changes}
 use Rattle.vcd_amend.proofs.amending.CutPieces.{on_error, released_some, same_number}
 use Rattle.vcd_amend.proofs.amending.cut_amender.release.Goals as goal

@@ -1,7 +1,7 @@
 use Rattle.std.proofs.Common.{◌+◌, ◌-◌, drop, ap, sym, subst, ◌∙◌, arith}
 use Rattle.std.proofs.lemmas.List.{take_rest}
 use Rattle.vcd_remarks.specs.ValueRuns.{tick_before, runs_begun}
-use Rattle.vcd_remarks.specs.inside.remarks.Deglitching.{with_runs, with_pulse, with_kept, kept_run, short_span, AreFew}
+use Rattle.vcd_remarks.specs.inside.remarks.Deglitching.{with_runs, with_pulse, with_kept, AreFew}
 use Rattle.vcd_remarks.specs.inside.remarks.Deglitching.{found_first, first_run}
 use Rattle.vcd_remarks.proofs.remarks.RunsOfDeglitch.{few_with_pulse, few_with_kept, pulse_passed, run_passed}
 use Rattle.vcd_remarks.proofs.remarks.RunsOfDeglitch.{few_first, no_more_runs}

@@ -1,4 +1,4 @@
-use Rattle.std.proofs.Common.{ap, ◌∙◌, ◌∷◌, [], false}
+use Rattle.std.proofs.Common.{ap, ◌∙◌, ◌∷◌, [], false, Some}
 use Rattle.std.specs.List.{filter}
 use Rattle.vcd_core.specs.declared.bit.Bit.{Bit}
 use Rattle.vcd_core.specs.declared.bit.Bit.TheVariants.{Zero, One}
@@ -17,10 +17,10 @@ returns c =
     let lost = c.lost_ticks-lost.ensures
     ∙ (λ i. found_ticks (ticks_where (becomes_lost false (c.scalar_wave-wave.ensures.letters i))
     (c.end-end.ensures i))) in
-    let short = λ (level : Bit). (λ i. found_ticks (short_among (filter (is_level_run level (c.end-end.ensures i))
-    (runs_begun (c.end-end.ensures i) (c.changes_at-changes.ensures i)))))
-    ∙ ap (λ rs. found_ticks (short_among rs))
-    (level_runs_of level (contents c.args.capture.now).end s.width s.changes) in
+    let short = λ (level : Bit). ap (λ rs. found_ticks (short_among rs rs))
+    ((λ i. filter (is_level_run (Some level) (c.end-end.ensures i))
+    (runs_begun (c.end-end.ensures i) (c.changes_at-changes.ensures i)))
+    ∙ level_runs_of (Some level) (contents c.args.capture.now).end s.width s.changes) in
     λ i. finding_is _ _ _ _ c.of_kind.ensures lost i
     ∷ finding_is _ _ _ _ c.of_kind-2.ensures (c.short_runs_in-low.ensures ∙ short Zero) i
     ∷ finding_is _ _ _ _ c.of_kind-3.ensures (c.short_runs_in-high.ensures ∙ short One) i ∷ []

@@ -7,7 +7,7 @@ use Rattle.vcd_remarks.proofs.remarks.spi.cs_findings.Goals as goal
 
 pub returns : goal.returns
 returns c =
-    let u = c.args.setup.now in
+    let u = c.args.bus.now.setup in
     let clk = c.scalar_wave-clk.ensures.letters in
     let cs = c.scalar_wave-cs.ensures.letters in
     let end = c.end-end.ensures in

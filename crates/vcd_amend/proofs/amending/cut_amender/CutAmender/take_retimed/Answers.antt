@@ -12,7 +12,7 @@ use Rattle.vcd_amend.specs.declared.amendment.Amendment.{Amendment}
 use Rattle.vcd_amend.specs.inside.amending.FileAmender.{HasSeen}
 use Rattle.vcd_amend.specs.inside.amending.HeldChanges.{retimed_stamp_piece, IsRetimedStamp}
 use Rattle.vcd_amend.specs.inside.amending.CutAmender.{rules_of, sent_for, held_for, cut_of, released_before}
-use Rattle.vcd_amend.proofs.retimed.Copies.{copied_more}
+use Rattle.vcd_copy.proofs.shared.CopiedPieces.{copied_more}
 use Rattle.vcd_amend.proofs.retimed.Ticks.{is_earlier}
 use Rattle.vcd_amend.proofs.amending.CutPieces.{on_error}
 use Rattle.vcd_amend.proofs.amending.CutSteps.{stamped_step, stamped_seen, before_new}
