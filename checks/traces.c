@@ -1,10 +1,14 @@
 /* Preloaded over a program (LD_PRELOAD), it tells which calls it makes on files, in their order, in the file TRACE: a
-   line for each, with the name of an open file in place of its number, and the error that the call ended with. Writes
-   in a row to one file are one line. It also makes calls fail, or shows other files than there are:
+   line for each, with the name of an open file in place of its number, and the error that the call ended with. A path
+   that goes by an open folder begins with that one's name, in brackets. Writes in a row to one file are one line. It
+   also makes calls fail, or shows other files than there are:
 
      FAILS=CALL:PATH:ERRNO      this call fails on what begins so
      FAILS_ONCE=1               it does so once
      AT_SYNC=COMMAND            a shell runs this right before the first fsync
+     AT_RENAME=COMMAND          it does so right before the first rename
+     LINKS=PATH                 this file gets the second name in place of another one
+     LOOKS_AT=PATH              each look at `c.vcd` that follows links shows this file
      LATER=FIELD                statx shows one more in this field of `c.vcd` after the first fsync: dev, ino, size,
                                 sec or nsec
 
@@ -37,6 +41,21 @@ static char names[NAMES][256] = {"input", "output", "errors"};
 
 static const char *name_of(int file) { return file >= 0 && file < NAMES ? names[file] : "?"; }
 
+/* A path as lines show it. */
+static const char *legible(const char *path, char *buffer, size_t size) {
+    static const char open_files[] = "/proc/self/fd/";
+    const char *rest = path + sizeof open_files - 1;
+    if (strncmp(path, open_files, sizeof open_files - 1))
+        return path;
+    const char *name = name_of(atoi(rest));
+    while (*rest && *rest != '/')
+        rest++;
+    if (!*rest)
+        return path;
+    snprintf(buffer, size, "[%s]%s", name, rest);
+    return buffer;
+}
+
 /* The file that the last line was a write to. */
 static int written = -1;
 
@@ -68,7 +87,8 @@ static int is_to_fail(const char *call, const char *path) {
 /* Makes a call unless it is to fail, tells of it, and gives its result as the C library does. */
 static long traced(const char *call, const char *path, const char *rest, long number, long a, long b, long c, long d,
                    long e) {
-    char line[1200];
+    char line[1200], buffer[600];
+    path = legible(path, buffer, sizeof buffer);
     int error = is_to_fail(call, path);
     long result = error ? -1 : syscall(number, a, b, c, d, e);
     if (error)
@@ -84,14 +104,14 @@ static long traced(const char *call, const char *path, const char *rest, long nu
 
 int open(const char *path, int flags, ...) {
     __builtin_va_list rest;
-    char shown[60];
+    char shown[60], buffer[600];
     __builtin_va_start(rest, flags);
     int mode = flags & O_CREAT ? __builtin_va_arg(rest, int) : 0;
     __builtin_va_end(rest);
     snprintf(shown, sizeof shown, flags & O_CREAT ? " %o mode %o" : " %o", flags & ~02000000, mode);
     int file = traced("open", path, shown, 2, (long)path, flags, mode, 0, 0);
     if (file >= 0 && file < NAMES)
-        strncpy(names[file], path, sizeof names[file] - 1);
+        strncpy(names[file], legible(path, buffer, sizeof buffer), sizeof names[file] - 1);
     return file;
 }
 
@@ -117,13 +137,29 @@ int rmdir(const char *path) { return traced("rmdir", path, "", 84, (long)path, 0
 
 int unlink(const char *path) { return traced("unlink", path, "", 87, (long)path, 0, 0, 0, 0); }
 
+/* Runs the command of a setting in a shell, once. */
+static void run_once(const char *setting) {
+    const char *command = getenv(setting);
+    if (!command)
+        return;
+    unsetenv("LD_PRELOAD");
+    system(command);
+    unsetenv(setting);
+}
+
 int rename(const char *path, const char *target) {
-    char shown[600];
-    snprintf(shown, sizeof shown, " to %s", target);
+    char shown[600], buffer[500];
+    run_once("AT_RENAME");
+    snprintf(shown, sizeof shown, " to %s", legible(target, buffer, sizeof buffer));
     return traced("rename", path, shown, 82, (long)path, (long)target, 0, 0, 0);
 }
 
-int link(const char *path, const char *other) { return traced("link", path, "", 86, (long)path, (long)other, 0, 0, 0); }
+int link(const char *path, const char *other) {
+    char shown[600], buffer[500];
+    snprintf(shown, sizeof shown, " to %s", legible(other, buffer, sizeof buffer));
+    const char *linked = getenv("LINKS");
+    return traced("link", path, shown, 86, (long)(linked ? linked : path), (long)other, 0, 0, 0);
+}
 
 int chmod(const char *path, unsigned mode) {
     char shown[40];
@@ -165,11 +201,7 @@ int flock(int file, int how) {
 static int has_synced;
 
 int fsync(int file) {
-    const char *command = getenv("AT_SYNC");
-    if (command && !has_synced) {
-        unsetenv("LD_PRELOAD");
-        system(command);
-    }
+    run_once("AT_SYNC");
     has_synced = 1;
     return traced("fsync", name_of(file), "", 74, file, 0, 0, 0, 0);
 }
@@ -192,7 +224,9 @@ static void change_later(unsigned char *found) {
 }
 
 int statx(int folder, const char *path, int flags, unsigned mask, void *found) {
-    const char *shown = *path ? path : name_of(folder);
+    const char *shown = *path ? path : name_of(folder), *other = getenv("LOOKS_AT");
+    if (other && !(flags & 0x100) && !strcmp(path, "c.vcd"))
+        path = other;
     int result = traced(flags & 0x100 ? "look at the link" : "look", shown, "", 332, folder, (long)path, flags, mask,
                         (long)found);
     if (result == 0 && has_synced && !strcmp(shown, "c.vcd"))

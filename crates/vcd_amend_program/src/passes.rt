@@ -41,17 +41,16 @@ pub fn open_passes<'a, R: Runtime + AllocGlobal>(
     ensures ready { IfOk result (AreReady ⟦<Pass<'a, R> as Source>⟧.has_failed) }
     ensures fault { IfErr result (λ e. e ≡ not_read) }
 {
-    let path = capture.path();
     let watch = Watch::begin(rt, capture.length());
     let compares = watch.line("compares the passes");
     let checks = watch.line("checks the capture");
     let reads = watch.line_with_forecast("reads the changes");
     let writes = watch.line("writes the output");
     Ok(Passes {
-        declarations: open_pass(rt, path, compares).map_err(|_| NOT_READ)?,
-        outline: open_pass(rt, path, checks).map_err(|_| NOT_READ)?,
-        changes: open_pass(rt, path, reads).map_err(|_| NOT_READ)?,
-        copy: open_pass(rt, path, writes).map_err(|_| NOT_READ)?,
+        declarations: open_pass(rt, capture, compares).map_err(|_| NOT_READ)?,
+        outline: open_pass(rt, capture, checks).map_err(|_| NOT_READ)?,
+        changes: open_pass(rt, capture, reads).map_err(|_| NOT_READ)?,
+        copy: open_pass(rt, capture, writes).map_err(|_| NOT_READ)?,
     })
 }
 

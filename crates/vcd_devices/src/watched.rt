@@ -5,9 +5,9 @@ ghost use Rattle.std.specs.Prelude.{◌≡◌, false, IfOk};
 use crate::capture_search::CaptureSearch;
 use crate::progress::ProgressLine;
 use crate::reasons::tell_reason;
-use std::fs;
 use std::io::Read;
 use std::rt::Runtime;
+use std::{fs, io};
 use vcd_core::{DeviceFault, Source};
 
 /// A source over a reader, as `FromRead` of `vcd_core`: nothing is tried again.
@@ -90,18 +90,19 @@ pub fn open_named<'a, R: Runtime + AllocGlobal>(
 ) -> Result<Watched<'a, R, R::File>, DeviceFault>
     ensures { IfOk result (λ s. ⟦<Watched<'a, R, R::File> as Source>⟧.has_failed s ≡ false) }
 {
-    open_watched(rt, path, ProgressLine::none())
+    watched_or_told(rt, path, fs::open(rt, path), ProgressLine::none())
 }
 
-/// Opens a named file for a pass with this line. If it can't be opened, the reason is told.
-pub fn open_watched<'a, R: Runtime + AllocGlobal>(
+/// Watches a named file that was opened, with this line. If it can't be opened, the reason is told.
+pub fn watched_or_told<'a, R: Runtime + AllocGlobal>(
     rt: &'a R,
     path: &'a str,
+    opened: io::Result<R::File>,
     line: ProgressLine,
 ) -> Result<Watched<'a, R, R::File>, DeviceFault>
     ensures { IfOk result (λ s. ⟦<Watched<'a, R, R::File> as Source>⟧.has_failed s ≡ false) }
 {
-    match fs::open(rt, path) {
+    match opened {
         Ok(reader) => Ok(Watched::new(rt, reader, Some(path), line)),
         Err(error) => {
             tell_reason(rt, path, &error);

@@ -1,9 +1,10 @@
 //! A file is replaced as a whole, unless what it is made from has changed meanwhile.
 //!
 //! An [`OutputFile`] is written in a folder of its own beside its target. `put_in_place` syncs it,
-//! then looks at the capture for the last time, and then renames it: each step takes what only the
-//! one before it makes, and only then a new file is [`InPlace`]. A [`SeenFile`] is what the capture
-//! was before it was read, by which a later look tells it from another file.
+//! then looks at the capture, renames it, and looks at a capture that it replaces once more: each
+//! step takes what only the one before it makes, and only then a new file is [`InPlace`]. A
+//! [`SeenFile`] is what the capture was before it was read, by which a later look tells it from
+//! another file.
 #![tactic(auto)]
 
 mod in_place;

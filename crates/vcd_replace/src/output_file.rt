@@ -3,7 +3,7 @@
 ghost use Rattle.std.specs.Prelude.{IfErr};
 ghost use Rattle.vcd_replace.specs.Errors.{IsEarlyError, IsLateError};
 
-use crate::in_place::InPlace;
+use crate::in_place::{InPlace, Renamed};
 use crate::own_folder::OwnFolder;
 use crate::replace_error::ReplaceError;
 use crate::seen_file::{SeenFile, is_one_file};
@@ -72,8 +72,9 @@ impl<'a, R: Files<File = File> + AllocGlobal> OutputFile<'a, R> {
     /// Puts the file in the place of its target.
     ///
     /// It is first written to the disk, and then the capture is looked at for the last time. If one
-    /// of these fails, the file is removed and the target is as it was. A target that is written as
-    /// it is has all bytes by then, and only the capture is looked at.
+    /// of these fails, the file is removed and the target is as it was. A capture that was replaced
+    /// is looked at once more, and comes back to its place if it has changed. A target that is
+    /// written as it is has all bytes by then, and only the capture is looked at.
     pub fn put_in_place(self) -> Result<InPlace, ReplaceError>
         ensures { IfErr result (IsLateError self.entry.capture) }
     {
@@ -88,7 +89,8 @@ impl<'a, R: Files<File = File> + AllocGlobal> OutputFile<'a, R> {
         };
         let new = Synced::sync(place, file)?;
         let new = Unchanged::look(files, new, capture)?;
-        Ok(InPlace::rename(files, new)?)
+        let new = Renamed::rename(new)?;
+        InPlace::look_again(new, capture)
     }
 }
 
@@ -111,22 +113,18 @@ fn begin_over<'a, R: Files<File = File> + AllocGlobal>(
 ) -> Result<OutputFile<'a, R>, ReplaceError>
     ensures { IfErr result IsEarlyError }
 {
-    let old = OldFile::of(found);
     if is_script(rt, found, inputs.script) {
         return Err(ReplaceError::IsInput);
     }
     if is_open_elsewhere(rt, path)? {
-        if inputs
-            .capture
-            .is_some_and(|capture| capture.was(&old.state))
-        {
+        if is_capture(found, inputs) {
             return Err(ReplaceError::IsInput);
         }
         return Ok(as_it_is(rt, path, inputs)?);
     }
     refuse_protected(rt, path, found)?;
     let target = real_path(rt, path)?;
-    create(rt, path, target, Some(old), inputs)
+    create(rt, path, target, Some(found), inputs)
 }
 
 /// Begins the output for a target that is not there. A link that leads nowhere is refused.
@@ -188,18 +186,26 @@ fn refuse_protected<R: Files>(files: &R, path: &str, found: &Metadata) -> Result
     }
 }
 
-/// Creates the file for the target of a path in a folder of its own. No other user reads it before
-/// it is in its place, where it has the mode of the old one, or else that of any new file.
+/// Creates the file for the target of a path in a folder of its own, unless another file than the
+/// one that was found is there by now. No other user reads it before it is in its place, where it
+/// has the mode of the old one, or else that of any new file.
 fn create<'a, R: Files<File = File> + AllocGlobal>(
     rt: &'a R,
     path: &str,
     target: PathBuf,
-    old: Option<OldFile>,
+    found: Option<&Metadata>,
     inputs: Inputs<'a>,
 ) -> Result<OutputFile<'a, R>, ReplaceError>
     ensures { IfErr result IsEarlyError }
 {
-    let mut folder = OwnFolder::make(rt, folder_beside(rt.alloc(), &target)?)?;
+    let beside = folder_beside(rt.alloc(), &target)?;
+    let Some(folder) = OwnFolder::make(rt, &target, &beside)? else {
+        return Err(ReplaceError::InUse { folder: beside });
+    };
+    let old = match found {
+        Some(found) => Some(find_again(&folder, found)?),
+        None => None,
+    };
     let mode = if old.is_some() { 0o600 } else { 0o666 };
     let file = folder.create_file(mode)?;
     Ok(OutputFile {
@@ -208,9 +214,23 @@ fn create<'a, R: Files<File = File> + AllocGlobal>(
         file,
         place: Some(Place {
             folder,
-            target,
-            has_capture_path: inputs.capture.is_some_and(|capture| capture.path() == path),
             old,
+            is_capture: found.is_some_and(|found| is_capture(found, inputs)),
+            has_capture_path: inputs.capture.is_some_and(|capture| capture.path() == path),
         }),
     })
+}
+
+/// Whether this file is the capture.
+fn is_capture(found: &Metadata, inputs: Inputs<'_>) -> bool {
+    inputs.capture.is_some_and(|capture| capture.was(found))
+}
+
+/// The file that was found, if it has the target's name in the folder that is open by now.
+fn find_again<R: Files>(folder: &OwnFolder<'_, R>, found: &Metadata) -> io::Result<OldFile> {
+    let old = folder.look_at_target()?;
+    if is_one_file(&old, found) {
+        return Ok(OldFile::of(&old));
+    }
+    Err(ErrorKind::ResourceBusy.into())
 }

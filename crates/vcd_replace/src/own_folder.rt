@@ -1,28 +1,31 @@
 //! A folder that is a run's own, in which its output is written.
 
-ghost use Rattle.std.specs.Prelude.{IfErr};
-ghost use Rattle.vcd_replace.specs.Errors.{IsEarlyError};
-
 use crate::open_files::open_path;
-use crate::replace_error::ReplaceError;
 use crate::seen_file::is_one_file;
-use std::fs::{DirBuilder, File, OpenOptions, TryLockError};
+use crate::target::folder_of;
+use std::fs::{DirBuilder, File, Metadata, OpenFile, OpenOptions, TryLockError};
 use std::io::ErrorKind;
 use std::os::unix::fs::{DirBuilderExt, MetadataExt, OpenOptionsExt};
 use std::path::PathBuf;
 use std::rt::Files;
 use std::{fs, io};
 
-/// A folder that this user alone can enter, for one file. Both are removed when this is dropped.
+/// A folder beside a target that this user alone can enter. It is for the new file, and for a
+/// second name of the old one. All are removed when this is dropped.
 ///
 /// The run holds a lock on the folder, which the system takes back when the run ends, however it
 /// does. So a folder that nobody has locked was left by a run that was interrupted.
+///
+/// All paths go by the folders that are open, so nobody can exchange what they lead to.
 pub struct OwnFolder<'a, R: Files> {
     files: &'a R,
+    // these go by the target's folder, which is `above`
+    target: PathBuf,
     folder: PathBuf,
-    // its path goes by the open folder: nobody can exchange that
-    file: PathBuf,
-    has_file: bool,
+    // they go by this folder: the new file, and the second name of the old one
+    new: PathBuf,
+    old: PathBuf,
+    above: File,
     // it is open, and so it is locked
     lock: File,
 }
@@ -38,52 +41,86 @@ enum Lock {
 }
 
 impl<'a, R: Files<File = File> + AllocGlobal> OwnFolder<'a, R> {
-    /// Makes the folder, or takes over one that was left. One that others have, or make or remove
-    /// meanwhile, is in use.
-    pub fn make(rt: &'a R, folder: PathBuf) -> Result<OwnFolder<'a, R>, ReplaceError>
-        ensures { IfErr result IsEarlyError }
-    {
+    /// Makes the folder of this path beside the target, or takes over one that was left. None is
+    /// for one that others have, or make or remove meanwhile.
+    pub fn make(
+        rt: &'a R,
+        target: &PathBuf,
+        beside: &PathBuf,
+    ) -> io::Result<Option<OwnFolder<'a, R>>> {
+        let named = PathBuf::from_str(rt.alloc(), folder_of(target.as_path()).as_str())?;
+        let above = fs::open(rt, &named)?;
+        let reached = open_path(rt, &above)?.unwrap_or(named);
+        let target = reached.join(rt.alloc(), target.file_name().unwrap_or(""))?;
+        let folder = reached.join(rt.alloc(), beside.file_name().unwrap_or(""))?;
         if !is_made(rt, &folder)? && !(is_cleared(rt, &folder)? && is_made(rt, &folder)?) {
-            return Err(ReplaceError::InUse { folder });
+            return Ok(None);
         }
         match lock_folder(rt, &folder)? {
-            Lock::Taken(lock) | Lock::Unknown(lock) => Ok(OwnFolder {
-                files: rt,
-                file: file_within(rt, &folder, &lock)?,
-                folder,
-                has_file: false,
-                lock,
-            }),
-            Lock::Refused => Err(ReplaceError::InUse { folder }),
+            Lock::Taken(lock) | Lock::Unknown(lock) => {
+                let (new, old) = paths_within(rt, &folder, &lock)?;
+                Ok(Some(OwnFolder {
+                    files: rt,
+                    target,
+                    folder,
+                    new,
+                    old,
+                    above,
+                    lock,
+                }))
+            }
+            Lock::Refused => Ok(None),
         }
     }
 
-    /// Creates its file anew, with this mode. The folder is to have the same owner.
-    pub fn create_file(&mut self, mode: u32) -> io::Result<File> {
+    /// Creates the new file, with this mode. The folder is to have the same owner.
+    pub fn create_file(&self, mode: u32) -> io::Result<File> {
         let file = OpenOptions::new()
             .write(true)
             .create_new(true)
             .mode(mode)
-            .open(self.files, &self.file)?;
-        self.has_file = true;
+            .open(self.files, &self.new)?;
         if file.metadata()?.uid() != self.lock.metadata()?.uid() {
             return Err(ErrorKind::PermissionDenied.into());
         }
         Ok(file)
     }
-
-    /// Gives its file another path.
-    pub fn rename_file(&mut self, target: &PathBuf) -> io::Result<()> {
-        fs::rename(self.files, &self.file, target)?;
-        self.has_file = false;
-        Ok(())
-    }
 }
 
 impl<R: Files> OwnFolder<'_, R> {
-    /// Whether this open file is its file.
+    /// Whether this open file is the new file.
     pub fn has(&self, file: &File) -> io::Result<bool> {
-        is_at(self.files, file, &self.file)
+        is_at(self.files, file, &self.new)
+    }
+
+    /// Looks at what has the target's name. A link is not followed.
+    pub fn look_at_target(&self) -> io::Result<Metadata> {
+        fs::symlink_metadata(self.files, &self.target)
+    }
+
+    /// Gives what has the target's name a second name, if the file system has such.
+    pub fn keep_old(&self) {
+        let _ = fs::hard_link(self.files, &self.target, &self.old);
+    }
+
+    /// Looks at what has the second name.
+    pub fn look_at_old(&self) -> io::Result<Metadata> {
+        fs::symlink_metadata(self.files, &self.old)
+    }
+
+    /// Gives the new file the target's name.
+    pub fn rename_new(&self) -> io::Result<()> {
+        fs::rename(self.files, &self.new, &self.target)
+    }
+
+    /// Gives what has the second name the target's name again.
+    pub fn put_old_back(&self) -> io::Result<()> {
+        fs::rename(self.files, &self.old, &self.target)
+    }
+
+    /// Writes the target's folder to the disk, if the system does.
+    pub fn sync_above(&self) {
+        let _ = self.above.sync_all();
     }
 }
 
@@ -91,16 +128,29 @@ impl<R: Files> Drop for OwnFolder<'_, R> {
     fn drop(self) {
         let OwnFolder {
             files,
+            target: _target,
             folder,
-            file,
-            has_file,
+            new,
+            old,
+            above: _above,
             lock: _lock,
         } = self;
-        if has_file {
-            let _ = fs::remove_file(files, &file);
-        }
+        let _ = fs::remove_file(files, &new);
+        let _ = fs::remove_file(files, &old);
         let _ = fs::remove_dir(files, &folder);
     }
+}
+
+/// The paths in an open folder of the new file, which has the folder's name, and of the old one.
+fn paths_within<R: Files + AllocGlobal>(
+    rt: &R,
+    folder: &PathBuf,
+    opened: &File,
+) -> io::Result<(PathBuf, PathBuf)> {
+    let named = PathBuf::from_str(rt.alloc(), folder.as_str())?;
+    let reached = open_path(rt, opened)?.unwrap_or(named);
+    let new = reached.join(rt.alloc(), folder.file_name().unwrap_or(""))?;
+    Ok((new, reached.join(rt.alloc(), "old")?))
 }
 
 /// Makes a folder for this user alone, unless something has its name.
@@ -112,20 +162,7 @@ fn is_made<R: Files>(files: &R, folder: &PathBuf) -> io::Result<bool> {
     }
 }
 
-/// The path of the file in an open folder, which has the folder's name.
-fn file_within<R: Files + AllocGlobal>(
-    rt: &R,
-    folder: &PathBuf,
-    opened: &File,
-) -> io::Result<PathBuf> {
-    let name = folder.file_name().unwrap_or("");
-    match open_path(rt, opened)? {
-        Some(path) => Ok(path.join(rt.alloc(), name)?),
-        None => Ok(folder.join(rt.alloc(), name)?),
-    }
-}
-
-/// Removes a folder with its file, if nobody has locked it.
+/// Removes a folder with its files, if nobody has locked it.
 fn is_cleared<R: Files<File = File> + AllocGlobal>(rt: &R, folder: &PathBuf) -> io::Result<bool> {
     match fs::symlink_metadata(rt, folder) {
         Ok(found) if found.is_dir() => {}
@@ -136,7 +173,9 @@ fn is_cleared<R: Files<File = File> + AllocGlobal>(rt: &R, folder: &PathBuf) -> 
     }
     match lock_folder(rt, folder) {
         Ok(Lock::Taken(lock)) => {
-            let _ = fs::remove_file(rt, &file_within(rt, folder, &lock)?);
+            let (new, old) = paths_within(rt, folder, &lock)?;
+            let _ = fs::remove_file(rt, &new);
+            let _ = fs::remove_file(rt, &old);
             Ok(fs::remove_dir(rt, folder).is_ok())
         }
         Ok(_) => Ok(false),

@@ -23,10 +23,10 @@ pub enum ReplaceError {
     InUse { folder: PathBuf },
     /// At the last look the path of the capture led to no file, or to one whose device, inode,
     /// length or time is another one than when it was found. Or that of its target did, which was
-    /// the capture.
+    /// the capture. Or that was changed after the last look, and came back.
     CaptureChanged,
     /// It can't be created, written or put in its place, for the system's reason. Or the target is
-    /// a folder, or a link that leads nowhere, or memory ran out.
+    /// a folder, or a link that leads nowhere, or another file by now, or memory ran out.
     System(io::Error),
 }
 

@@ -1,6 +1,7 @@
 //! A regular file as it was when it was found.
 
-use std::fs::Metadata;
+use std::fs::{Metadata, OpenFile};
+use std::io::ErrorKind;
 use std::os::unix::fs::MetadataExt;
 use std::rt::Files;
 use std::{fs, io};
@@ -56,22 +57,34 @@ impl<'a> SeenFile<'a> {
         self.state.length
     }
 
-    /// Whether a file that was found by another path had the same state.
-    pub fn was(&self, state: &FileState) -> bool {
-        self.state == *state
+    /// Opens it, unless its path leads to another file by now.
+    pub fn open<R: Files>(&self, files: &R) -> io::Result<R::File> {
+        let file = fs::open(files, self.path)?;
+        let found = file.metadata()?;
+        if found.dev() == self.state.device && found.ino() == self.state.inode {
+            return Ok(file);
+        }
+        Err(ErrorKind::ResourceBusy.into())
+    }
+
+    /// Whether a look found it, in the same state.
+    pub fn was(&self, found: &Metadata) -> bool {
+        self.state == FileState::of(found)
     }
 
     /// Whether its path leads to another file by now, or the file has changed since it was found.
     pub fn is_replaced<R: Files>(&self, files: &R) -> bool {
-        is_other(files, self.path, &self.state)
+        self.is_other(fs::metadata(files, self.path))
     }
-}
 
-/// Whether a path does not lead to a file in this state.
-pub fn is_other<R: Files>(files: &R, path: &str, state: &FileState) -> bool {
-    match fs::metadata(files, path) {
-        Ok(found) => FileState::of(&found) != *state,
-        Err(_) => true,
+    /// Whether a look found another file, or this one after a change.
+    pub fn is_unlike(&self, found: io::Result<Metadata>) -> bool {
+        found.is_ok_and(|found| !self.was(&found))
+    }
+
+    /// Whether it did so, or found none.
+    pub fn is_other(&self, found: io::Result<Metadata>) -> bool {
+        !found.is_ok_and(|found| self.was(&found))
     }
 }
 

@@ -1,31 +1,29 @@
 //! A new file that is on the disk, in a folder of its own.
 
 use crate::own_folder::OwnFolder;
-use crate::seen_file::FileState;
 use std::fs::{File, Metadata, Permissions};
 use std::io;
 use std::io::ErrorKind;
 use std::os::unix::fs::{MetadataExt, PermissionsExt, fchown};
-use std::path::PathBuf;
 use std::rt::Files;
 
 /// The bits of a mode that say who may read and write a file.
 const PERMISSIONS: u32 = 0o777;
 
-/// The folder of a new file, its target, and what was there before.
+/// The folder of a new file beside its target, and what was there before.
 #[derive(Drop)]
 pub struct Place<'a, R: Files> {
     pub folder: OwnFolder<'a, R>,
-    pub target: PathBuf,
+    pub old: Option<OldFile>,
+    /// Whether the target was the capture when the output was begun.
+    pub is_capture: bool,
     /// Whether the output has the capture's path, so that its target is to be the capture.
     pub has_capture_path: bool,
-    pub old: Option<OldFile>,
 }
 
 /// What a new file takes over from the one in whose place it comes.
 #[derive(Clone, Copy)]
 pub struct OldFile {
-    pub state: FileState,
     owner: u32,
     group: u32,
     mode: u32,
@@ -34,7 +32,6 @@ pub struct OldFile {
 impl OldFile {
     pub fn of(found: &Metadata) -> OldFile {
         OldFile {
-            state: FileState::of(found),
             owner: found.uid(),
             group: found.gid(),
             mode: found.mode() & PERMISSIONS,
@@ -58,20 +55,15 @@ impl<'a, R: Files> Synced<'a, R> {
             make_like(&file, old)?;
         }
         file.sync_all()?;
-        // from here on only the look at the capture comes before the rename
+        // from here on only what concerns the capture comes before the rename
         if !place.folder.has(&file)? {
             return Err(ErrorKind::NotFound.into());
         }
         Ok(Synced { place, file })
     }
 
-    /// The target, and what was there before.
-    pub fn place(&self) -> &Place<'a, R> {
-        &self.place
-    }
-
-    pub fn into_parts(self) -> (Place<'a, R>, File) {
-        (self.place, self.file)
+    pub fn into_place(self) -> Place<'a, R> {
+        self.place
     }
 }
 

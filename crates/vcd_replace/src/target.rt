@@ -7,7 +7,6 @@ ghost use Rattle.vcd_replace.specs.Names.{folder_name};
 ghost use Rattle.vcd_replace.specs.Names as spec;
 
 use std::alloc::Global;
-use std::fs::OpenFile;
 use std::io::ErrorKind;
 use std::path::{Path, PathBuf};
 use std::rt::Files;
@@ -69,11 +68,4 @@ pub fn folder_beside(alloc: Global, target: &PathBuf) -> io::Result<PathBuf>
     };
     let hidden = format!(in alloc; ".{name}.vcdedit")?;
     Ok(target.with_file_name(alloc, hidden.as_str())?)
-}
-
-/// Writes the folder of a path to the disk, if the system does.
-pub fn sync_folder<R: Files>(files: &R, path: Path<'_>) {
-    if let Ok(folder) = fs::open(files, folder_of(path)) {
-        let _ = folder.sync_all();
-    }
 }

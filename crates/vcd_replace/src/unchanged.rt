@@ -4,7 +4,7 @@ ghost use Rattle.std.specs.Prelude.{IfErr};
 ghost use Rattle.vcd_replace.specs.Errors.{IsChange};
 
 use crate::replace_error::ReplaceError;
-use crate::seen_file::{SeenFile, is_other};
+use crate::seen_file::SeenFile;
 use crate::synced::{Place, Synced};
 use std::rt::Files;
 
@@ -12,12 +12,13 @@ use std::rt::Files;
 /// makes one.
 #[derive(Drop)]
 pub struct Unchanged<'a, R: Files> {
-    new: Synced<'a, R>,
+    place: Place<'a, R>,
 }
 
 impl<'a, R: Files> Unchanged<'a, R> {
     /// Looks at the capture, and refuses one that has changed since it was found, or that another
-    /// file has replaced. If the target is the capture, that is looked at by its own path, too.
+    /// file has replaced. If the target is the capture, that first gets a second name, and is
+    /// looked at in its folder, too.
     pub fn look(
         files: &R,
         new: Synced<'a, R>,
@@ -25,17 +26,21 @@ impl<'a, R: Files> Unchanged<'a, R> {
     ) -> Result<Unchanged<'a, R>, ReplaceError>
         ensures { IfErr result (IsChange capture.entry) }
     {
+        let place = new.into_place();
+        if place.is_capture {
+            place.folder.keep_old();
+        }
         refuse_replaced(files, capture)?;
         if let Some(capture) = capture {
-            if has_lost(files, new.place(), &capture) {
+            if has_lost(&place, &capture) {
                 return Err(ReplaceError::CaptureChanged);
             }
         }
-        Ok(Unchanged { new })
+        Ok(Unchanged { place })
     }
 
-    pub fn into_synced(self) -> Synced<'a, R> {
-        self.new
+    pub fn into_place(self) -> Place<'a, R> {
+        self.place
     }
 }
 
@@ -54,9 +59,10 @@ pub fn refuse_replaced<R: Files>(
 
 /// Whether the target was this capture, and is another file by now. One that has the capture's path
 /// must have been the capture, or a link there led elsewhere for a while.
-fn has_lost<R: Files>(files: &R, place: &Place<'_, R>, capture: &SeenFile<'_>) -> bool {
-    match &place.old {
-        Some(old) if capture.was(&old.state) => is_other(files, place.target.as_str(), &old.state),
-        _ => place.has_capture_path,
+fn has_lost<R: Files>(place: &Place<'_, R>, capture: &SeenFile<'_>) -> bool {
+    if !place.is_capture {
+        return place.has_capture_path;
     }
+    // what got the second name may have had the target's for a moment only
+    capture.is_unlike(place.folder.look_at_old()) || capture.is_other(place.folder.look_at_target())
 }
