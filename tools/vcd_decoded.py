@@ -1,7 +1,6 @@
 """What vcdedit-view and vcdedit-table share: lines of a script, and what those that decode say of a capture."""
 
 import collections
-import os
 import re
 
 import vcd_files
@@ -37,19 +36,16 @@ class Decoded(collections.namedtuple("Decoded", "number line decoder said remark
 
 def options_of(parser, words):
     """The options of a parser, with a capture and the lines of a script, as bytes."""
-    add = parser.add_argument
     told = "the capture, which stays as it is, or - for standard input; lines of a script, as 'i2c bench.scl bench.sda'"
-    add("words", metavar="CAPTURE LINE", nargs="*", help=told)
-    add("-q", "--quiet", action="store_true", help="write no remarks to standard error")
-    add("--script", metavar="SCRIPT", help="a file with lines before these, or - for standard input")
+    parser.add_argument("words", metavar="CAPTURE LINE", nargs="*", help=told)
+    vcd_files.add_script(parser)
     # Python parses words behind `--` only if no options may stand between the others.
     place = words.index("--") if "--" in words else len(words)
     options = parser.parse_intermixed_args(words[:place])
-    options.capture, *lines = [*options.words, *words[place + 1 :]] or parser.error("there is no CAPTURE")
+    options.capture, *options.line = [*options.words, *words[place + 1 :]] or parser.error("there is no CAPTURE")
     if options.capture == options.script == "-":
         parser.error("standard input is the capture or the script")
-    script = [] if options.script is None else [vcd_files.script_at(options.script).removesuffix(b"\n")]
-    options.lines = b"\n".join([*script, *map(os.fsencode, lines)]).split(b"\n")
+    options.lines = vcd_files.lines_of(options)
     return options
 
 

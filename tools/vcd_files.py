@@ -31,6 +31,7 @@ import fnmatch
 import fractions
 import io
 import itertools
+import json
 import re
 import shutil
 import tempfile
@@ -342,10 +343,24 @@ def what_else(prefix):
     return next((others for beginning, *others in OTHER_FILES if re.match(beginning, prefix)), None)
 
 
-def script_at(path):
-    """The bytes of a script, or of standard input."""
-    with sys.stdin.buffer if path == "-" else open(path, "rb") as file:
-        return file.read()
+def add_script(parser):
+    """Gives a parser the options that each tool has that carries out lines."""
+    parser.add_argument("-q", "--quiet", action="store_true", help="write no remarks to standard error")
+    parser.add_argument("--script", metavar="SCRIPT", help="a file with lines before these, or - for standard input")
+
+
+def lines_of(options):
+    """The lines of a script, or of standard input, and of the command line, as bytes."""
+    texts = [os.fsencode(line) for line in options.line]
+    if options.script is not None:
+        with sys.stdin.buffer if options.script == "-" else open(options.script, "rb") as file:
+            texts.insert(0, file.read().removesuffix(b"\n"))
+    return b"\n".join(texts).split(b"\n")
+
+
+def show_json(rows):
+    """Shows an array with a line for each object."""
+    print("[%s\n]" % ",".join("\n" + json.dumps(row) for row in rows))
 
 
 def opened(path):

@@ -12,6 +12,7 @@ import signal
 import unittest.mock
 
 import vcd_runs
+import vcd_traces
 from common import IS_UNPROVED, TOP, load, module_of, run, same, store, store_program, toggling
 from vcd_files import VERSION
 
@@ -36,6 +37,8 @@ FILES = {
     "wild": "value %s 3\nvalue x\0y 3\n" % ("x" * 2**17), "asks": "# a comment\n\n  changes tb.rx \nvalue tb.rx 5\n",
 }
 LINKS = {"link": "sub/p", "lost": "nowhere", "kept/B": "../B", "A.old": "A", "to_orig": "B.orig"}
+JSON = '{"capture": "%s", "replies": [{"line": 2, "refused": "UnknownCommand"}], "remarks": [], "end": 30, "timescale": '
+JSON += '"1 us", "status": 1, "written": true, "said": "written: 1 ok, 1 line refused"}%s'
 BOTH, BOTH_WRITTEN = {"A": DONE, "B": DONE}, ["A: written: 1 ok", "B: written: 1 ok", "2 written, 0 not, status 0"]
 GLOB = ["B: as it was: FOLDER/B.orig is there already", "faulty: as it was: line 1: #0: UnexpectedWord",
         "to_orig: as it was: is a backup: its name ends in .orig"]
@@ -74,7 +77,12 @@ RUNS = [
     ("asks fixed", 0, ["fixed:3: 0 1", "fixed:3: 5 0", "fixed:3: 6 1", "fixed:4: 0",
      "fixed: as it was: no line of the script edits"], {}),
     ("- A < script", 0, ["A: written: 1 ok"], {"A": DONE}),
-    ("script A --mark", 0, ["A: written: 1 ok"], {"A": DONE.replace("\n#0", "\n" + MARK + "#0")}),
+    ("--script - --line 'value tb.tx 5us' A < script", 0, ["A:2: 0", "A: written: 1 ok"], {"A": DONE},
+     "A: - line 2: carried out as: value tb.tx 5\n"),
+    ("--line 'rename tb.rx tx' --line frob A B --keep-going --json", 1, [
+        "[", *(JSON % (name, end) for name, end in (("A", ","), ("B", ""))), "]"], BOTH,
+     "A: line 2: frob: UnknownCommand\n", "B: line 2: frob: UnknownCommand\n"),
+    ("script A --mark", 0, ["A: written: 1 ok"], {"A": DONE.replace("$enddefinitions", MARK + "$enddefinitions")}),
     ("script A --mark --dry-run", 0, ["A: would be written: 1 ok"], {}),
     ("named A --dry-run", 1, ["A: as it was: NameOfSkipped: a signal would get the full name of a variable that is not "
      "edited"], {}),
@@ -85,6 +93,7 @@ RUNS = [
     ("none A", 4, [], {}, "none: No such file"), ("sub A", 4, [], {}, "sub: Is a directory"),
     *(("script A --%s ''" % word, 2, [], {}, "--into and --backup want a word") for word in ("into", "backup")),
     ("script A --to 9", 2, [], {}, "name it by --into"), ("script A --jobs 0", 2, [], {}, "--jobs is 1 or more"),
+    ("script", 2, [], {}, "there is no CAPTURE"),
     ("script A ./A", 2, [], {}, "two captures would be one file: A and ./A"),
     ("script A kept/A --into sub", 2, [], {}, "two captures would be one file: A and kept/A"),
     # A program that has the capture open does not write it.
@@ -120,6 +129,34 @@ REFUSED = [
     ("Invert tb.rx", "is invert meant?"), ("value tb.rx", "usage: value NAME TICK"),
     ("derive both and tb.rx", "usage: derive WORD not A"),
     ("\N{BYTE ORDER MARK}invert tb.rx", "byte order mark"), ("cut 60 200", "200: BadRange", "TO is past the end"),
+]
+# A capture with copies of a key, its name in comments and in a scope, and a string of another signal.
+GIVEN = """$comment the key is 0x2a $end
+$scope module tb $end $var reg 8 ! key [7:0] $end $var reg 1 # rx $end $var wire 1 ( flag $end
+$scope module u $end $var wire 8 " key [7:0] $end $var wire 8 $ other [7:0] $end $var wire 1 ) flag $end
+$scope module key $end $upscope $end $upscope $end $upscope $end $enddefinitions $end
+$comment vcdedit-amend 1.0.0
+edit deglitch tb.key[7:0] 20
+$end
+#0 b0 ! b0 " 0# 0( 0) b0 $ #5 b10 " b10 ! b10 $ #6 1# sHello # 1( 1) #7 b11 ! b11 " b1 $ r2.5 # $comment rx $end
+#9 b1 ! b1 " b1 $ #20
+"""
+STAYS_OF = "removed, but another variable with the same changes stays: "
+NAMED = "removed, but the name stays: tb.key[7:0]: "
+MARKED, COPY = NAMED + "edit deglitch tb.key[7:0] 20", STAYS_OF + "tb.key[7:0]: tb.u.key[7:0]"
+BOTH_KEYS = "removed, but the name stays: tb.key[7:0], tb.u.key[7:0]: "
+# Words, and what is remarked of what the new capture still shows.
+SHOWN = [
+    ("--line 'remove tb.key[7:0]'", [COPY, MARKED]), ("--remove 'tb.key*' --from 6", [COPY, MARKED]),
+    ("--remove 'tb.key*' --to 6", [MARKED]), ("--remove 'tb.key*' --from 8", [MARKED]),
+    ("--line 'remove tb.flag' --line 'remove tb.u.other[7:0]'", []), ("--line 'rename tb.key[7:0] k'", []),
+    ("--line 'rename @3 k' --line 'remove @0'",
+     [COPY.replace("u.key", "u.k"), NAMED + "$comment the key is 0x2a $end", NAMED + "$scope module key $end", MARKED]),
+    ("--line 'remove @3' --line 'remove @0'",
+     [BOTH_KEYS + line for line in ("$comment the key is 0x2a $end", "$scope module key $end", MARKED[len(NAMED) :])]),
+    ("--line 'force @1 0 21 1'", ["forced, but 2 real or string changes stay: tb.rx"]),
+    ("--line 'force tb.rx 0 20 1' --line 'remove tb.rx' -q", []), ("--line 'force tb.rx 0 20 1'", []),
+    ("--line 'remove tb.rx'", ["removed, but the name stays: tb.rx: $comment rx $end"]),
 ]
 # Where a capture and the words are like a pattern, this does something first.
 STAND_IN = """#!/bin/sh
@@ -227,6 +264,23 @@ def remarks():
     yield same("many remarks", (status, numbers), (1, ["%d:" % number for number in range(1, 4001, 2)]))
 
 
+def given():
+    """What a new capture still shows of what was removed or forced is found, also if all is looked at bit by bit."""
+    place = Folder("given", {"A": GIVEN})
+    for words, wanted in SHOWN:
+        _, (line,), errors = place.run(words + " /dev/null" * ("--line" not in words) + " A --into new")
+        found = re.findall("^A: output: ((?:removed, but (?!another variable of)|forced).*)", errors, re.M)
+        yield same(words, (found, bool(re.fullmatch(r"A: written to new/A: \d ok, end \d+, .*", line))), (wanted, True))
+    # Before the window v0 and v1 differ.
+    one, *others = ("$var wire 1 %s v%d $end\n" % (code, place) for place, code in enumerate("!()"))
+    text = "$comment vcdedit-amend: ticks 2 to end variables 2 of 3 $end $enddefinitions $end\n" + "".join(
+        "#%d\n%d!\n%d(\n%d)\n" % (n, n % 2, (n + (n < 2)) % 2, n % 2 and n < 7) for n in range(9))
+    old, new = store("old", text=one + "".join(others) + text), store("new", text="".join(others) + text)
+    with open(old, "rb") as old, open(new, "rb") as new:
+        with unittest.mock.patch("vcd_traces.SLICE", 1):
+            yield same("bit by bit", [*vcd_traces.traces_of(old, new, set(), True)], [STAYS_OF + "v0: v1"])
+
+
 def many_names():
     """Of many unknown words, in a capture with as many signals as there can be, near names are found in little time."""
     declared = "".join("$var wire 1 ! top.u%d.stage%d_q $end\n" % (place % 50, place) for place in range(65536))
@@ -290,6 +344,6 @@ def ends():
 
 
 def check():
-    for part in runs, fails, remarks, many_names, interrupted, alone, ends:
+    for part in runs, fails, remarks, given, many_names, interrupted, alone, ends:
         for name, right in () if IS_UNPROVED and part == many_names else part():
             yield "%s: %s" % (part.__name__, name), right

@@ -1,11 +1,13 @@
 """What is decoded, as it is shown: the rows, remarks, the written file, what GTKWave is to show, viewers."""
 
+import contextlib
 import os
 import re
 import signal
 import sys
+import unittest.mock
 
-from common import EXAMPLES, TOP, load, load_if_there, run, same, store, store_program
+from common import EXAMPLES, TOP, load, load_if_there, module_of, run, same, store, store_program
 
 TOOL = os.path.join(TOP, "tools/vcdedit-view")
 I2C, I2C_LINE = os.path.join(EXAMPLES, "i2c/capture.vcd"), "i2c bench.scl bench.sda"
@@ -72,6 +74,11 @@ BEFORE = {
     ("remove @0", "invert @0"): ("y", "before.rx y"),
     (): ("rx y", "before.rx before.y rx y"),
 }
+# Codes and values that look like others.
+WORDS = """$var wire 1 ! a $end $var wire 4 #3 q $end $var wire 4 b1 r $end $var wire 4 0x s $end $var real 64 $r v $end
+$var string 1 ss w $end $var wire 1 $a c $end $enddefinitions $end $dumpvars 0! b1 #3 b10 b1 bx 0x r1.5 $r sHi ss 0$a $end
+#1 1! b101\t#3 $comment #2 0! b1 #3 $end b11 b1 b1 0x\r\n#2 0! x$a $dumpoff x! $end #4 r2 $r 1! b110
+#3 #7 -! sB ss sC\tss\n#9"""
 # Options, and the ticks in 200 points and the size of what GTKWave is to show of a line with one row.
 WINDOWS = [([], 62, (1000, 186)), (["--size", "1600"], 36, (1600, 186)), (["--size", "800x300"], 81, (800, 300))]
 # Words, and the status and a part of what is told. Nothing is written then.
@@ -156,6 +163,12 @@ def settings():
     store("script", text="value before_2.r 9\nvalue before.q 9\nvalue before_2.q 9\n")
     values = run([os.environ["VCDEDIT"], "-i", "v.vcd", "--script", "script"])
     yield same("the capture before", values[1], "10\n01\n1\n")
+    store("c.vcd", text=WORDS)
+    view("c.vcd", "-o", "v.vcd", "--before", "invert a", "invert q", "cut 5 6")
+    found = ["".join("changes %s%s\n" % (scope, name) for name in "aqrsc") for scope in ("", "before.")]
+    found = [run([os.environ["VCDEDIT"], "-i", path, "--script", store("script", text=text)])[:2]
+             for path, text in zip(("c.vcd", "v.vcd"), found)]
+    yield same("words of all kinds before", found[1], found[0])
     view(I2C, "-o", "v.vcd", "--from", "204", "--to=400us", "--keep", "bench.*", I2C_LINE)
     parts = {"i2c": "0 -|8 address_0x50_read|79 -|98 data_0xc5|169 -",
              "i2c_conditions": "0 -|1 start|88 ack|178 nack|191 stop"}
@@ -172,6 +185,10 @@ def settings():
     view(GLITCHES, "-o", "old.vcd")
     found = oct(os.stat("old.vcd").st_mode), load("old.vcd") == load("old.vcd").replace(b"old", b"")
     yield same("a file that was there", found, ("0o100600", True))
+    before, files = load("old.vcd"), os.listdir()
+    with unittest.mock.patch("os.sendfile", side_effect=KeyboardInterrupt), contextlib.suppress(KeyboardInterrupt):
+        module_of("tools/vcdedit-view").put_at("old.vcd", "v.vcd")
+    yield same("an interruption", (load("old.vcd") == before, os.listdir()), (True, files))
 
 
 def programs():

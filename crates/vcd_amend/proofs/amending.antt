@@ -2,7 +2,6 @@
 pub mod LastChange
 pub mod UsedCodes
 pub mod InPlace
-pub mod MarkedTexts
 pub mod DueOrder
 pub mod StampedItems
 pub mod DueText

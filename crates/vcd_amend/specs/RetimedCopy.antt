@@ -5,7 +5,7 @@ use Rattle.std.specs.Prelude.{IsTrue, Option}
 use Rattle.vcd_text.specs.Grammar.{ParseState, initial_state, state_after_item, AllowsAll}
 use Rattle.vcd_copy.specs.Pieces.{Piece, IsCut, state_of_pieces}
 use Rattle.vcd_copy.specs.Copied.{CopyRules, copied, copied_pieces}
-use Rattle.vcd_copy.specs.Marks.{IsMarkedFile}
+use Rattle.vcd_copy.specs.Marks.{CommentBytes, with_mark}
 use Rattle.vcd_amend.specs.Amendment.{Amendment}
 use Rattle.vcd_amend.specs.AmendedText.{amended_text}
 use Rattle.vcd_amend.specs.Retimed.{change_key, held_with, is_past, released_pieces, retimed_fate}
@@ -69,19 +69,14 @@ RetimedCopyIsCopyOfRetimed = (is_cut_out : ℕ → Bool) (r : CopyRules) (pieces
     (tail : List ℕ) → copied (retimed_rules is_cut_out r) pieces tail
     ≡ copied r (pieces_after is_cut_out 0 pieces) tail
 
--- the file is accepted, and this text is the file after cuts, and then an amendment
-pub record IsAmendedAfterCuts (limit : ℕ) (is_cut_out : ℕ → Bool) (a : Amendment)
-    (file text : List ℕ) : Type 0 where
+-- the file is accepted, and this text is the file with a mark, if there is one, after cuts, and
+-- then an amendment
+pub record IsAmendedAfterCuts (limit : ℕ) (mark : Option CommentBytes) (is_cut_out : ℕ → Bool)
+    (a : Amendment) (file text : List ℕ) : Type 0 where
   pub pieces : List Piece
   pub tail : List ℕ
   pub cut : IsCut file pieces tail
   pub allowed : AllowsAll (initial_state limit) (map (λ p. p.item) pieces)
   pub in_body : IsTrue (state_of_pieces limit pieces).in_body
-  pub is : text ≡ amended_text a true (initial_state limit) (pieces_after is_cut_out limit pieces)
-      tail
-
--- the same of the file with a mark, if there is one
-abbrev pub IsAmendedWithMark : (limit : ℕ) → (mark : Option Piece) → (is_cut_out : ℕ → Bool)
-    → Amendment → (file text : List ℕ) → Type 0
-IsAmendedWithMark limit mark is_cut_out a file text = (marked : List ℕ)
-    × IsMarkedFile limit mark file marked × IsAmendedAfterCuts limit is_cut_out a marked text
+  pub is : text ≡ amended_text a true (initial_state limit)
+      (pieces_after is_cut_out limit (with_mark mark pieces)) tail

@@ -4,11 +4,11 @@ ghost use Rattle.std.specs.Prelude.{◌≡◌, ◌≤◌, List, ℕ, true, false
 ghost use Rattle.std.specs.Prelude.{All};
 ghost use Rattle.std.specs.Io.KnownBytes.{Appends, IsAtEnd};
 ghost use Rattle.vcd_copy.specs.CopyEnds.{CopyFails, TookFirst};
-ghost use Rattle.vcd_copy.specs.MarkText.{piece_of_mark};
+ghost use Rattle.vcd_copy.specs.MarkText.{comment_of_mark};
 ghost use Rattle.vcd_text.specs.declared.reading.TheConstants.{LONG_FILE_LIMIT};
 ghost use Rattle.vcd_amend.specs.AmendedMeaning.{AreApart};
 ghost use Rattle.vcd_amend.specs.AmendmentContents.{amendment_contents};
-ghost use Rattle.vcd_amend.specs.RetimedCopy.{IsAmendedWithMark, is_cut_by};
+ghost use Rattle.vcd_amend.specs.RetimedCopy.{IsAmendedAfterCuts, is_cut_by};
 
 mod code_progress;
 pub(crate) mod code_uses;
@@ -30,7 +30,7 @@ use vcd_copy::{CopyError, Mark, Marked, copy};
 use vcd_core::{Sink, Source};
 
 /// Reads a capture file, and writes it as it is after cuts and then an amendment. Each cut is made
-/// on what the earlier ones leave. A mark, if there is one, stands after the declarations. The
+/// on what the earlier ones leave. A mark, if there is one, comes before `$enddefinitions`. The
 /// writer is flushed once, after the last byte. A file has at most `LONG_FILE_LIMIT` bytes and
 /// `limit` kept variables.
 ///
@@ -58,7 +58,7 @@ pub fn amend_marked<R: Source, W: Sink>(
     requires ordered { All (λ c. c.from ≤ c.to) cuts.now }
     ensures amended { OnOk result (IfSome (R.coming reader.old) (λ file.
         (length file ≤ LONG_FILE_LIMIT)
-        × (text : List ℕ) × IsAmendedWithMark limit (piece_of_mark mark.entry)
+        × (text : List ℕ) × IsAmendedAfterCuts limit (comment_of_mark mark.entry)
         (is_cut_by cuts.now) (amendment_contents amendment.now) file text
         × Appends (W.taken writer.old) (W.taken writer.new) text)) }
     ensures not_failed { OnOk result (W.has_failed writer.new ≡ false) }
@@ -70,7 +70,7 @@ pub fn amend_marked<R: Source, W: Sink>(
         (R.coming reader.new) (R.has_failed reader.new) (W.taken writer.old) (W.taken writer.new)
         (W.has_failed writer.new)) }
     ensures begun { IfErr result (TookFirst limit
-        (IsAmendedWithMark limit (piece_of_mark mark.entry) (is_cut_by cuts.now)
+        (IsAmendedAfterCuts limit (comment_of_mark mark.entry) (is_cut_by cuts.now)
         (amendment_contents amendment.now)) (R.coming reader.old) (W.taken writer.old)
         (W.taken writer.new) (W.has_failed writer.new)) }
 {

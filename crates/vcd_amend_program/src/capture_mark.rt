@@ -8,12 +8,12 @@ ghost use Rattle.vcd_amend_program.specs.ProgramEnds.{not_read, no_memory};
 ghost use Rattle.vcd_amend_program.specs.Marks as spec;
 
 use crate::amend_error::{AmendError, NO_MEMORY, NOT_READ};
-use crate::command_line::VERSION;
+use crate::command_line::{Options, VERSION};
 use sha2::{Digest, Sha256};
-use std::alloc::Global;
+use std::alloc::{AllocError, Global};
 use std::rt::Runtime;
 use vcd_copy::MarkHead;
-use vcd_core::Source;
+use vcd_core::{Seq, Source, Word};
 use vcd_devices::open_named;
 use vcd_replace::SeenFile;
 
@@ -71,18 +71,60 @@ fn ended(alloc: Global, hasher: Sha256, size: u64) -> Result<CaptureDigest, Amen
     }
 }
 
-/// The head of the mark for a capture of this size and this SHA-256.
-pub fn head_of<'a>(path: &'a str, size: u64, digest: &'a str) -> MarkHead<'a>
+/// The head of the mark for a capture of this size and this SHA-256, of which such a part is taken.
+pub fn head_of<'a>(path: &'a str, size: u64, digest: &'a str, part: &'a [Word]) -> MarkHead<'a>
     ensures version { result.version.now ≡ VERSION.now }
     ensures size { result.size ≡ size }
     ensures digest { result.digest.now ≡ digest.now }
+    ensures part { result.part.now ≡ part.now }
 {
     MarkHead {
         version: VERSION.as_bytes(),
         name: file_name(path).as_bytes(),
         size,
         digest: digest.as_bytes(),
+        part,
     }
+}
+
+/// The lines of a mark that say which part the options ask for.
+pub fn part_lines(alloc: Global, options: &Options<'_, '_>) -> Result<Vec<Word>, AmendError>
+    ensures { IfErr result (λ e. e ≡ no_memory) }
+{
+    let mut lines = Vec::new(alloc);
+    push_lines(alloc, &mut lines, b"keep ", options.keep.unwrap_or(&[]))?;
+    push_lines(alloc, &mut lines, b"remove ", options.remove.unwrap_or(&[]))?;
+    if let Some(time) = options.from {
+        push_lines(alloc, &mut lines, b"from ", &[time])?;
+    }
+    if let Some(time) = options.to {
+        push_lines(alloc, &mut lines, b"to ", &[time])?;
+    }
+    Ok(lines)
+}
+
+/// Appends a line for each value of an option.
+fn push_lines(
+    alloc: Global,
+    lines: &mut Vec<Word>,
+    option: &[u8],
+    values: &[&str],
+) -> Result<(), AmendError>
+    ensures { IfErr result (λ e. e ≡ no_memory) }
+{
+    for value in values {
+        let line = line_of(alloc, option, value.as_bytes()).map_err(|_| NO_MEMORY)?;
+        lines.push(line).map_err(|_| NO_MEMORY)?;
+    }
+    Ok(())
+}
+
+/// A line of an option and its value.
+fn line_of(alloc: Global, option: &[u8], value: &[u8]) -> Result<Word, AllocError> {
+    let mut line = Vec::new(alloc);
+    line.extend_from_slice(option)?;
+    line.extend_from_slice(value)?;
+    Ok(Seq::from_vec(line))
 }
 
 /// The last part of a path.

@@ -32,9 +32,9 @@ Not edited here:
   A variable of real numbers, strings or events stays, with its changes; no signal can get its name.
 
 A mark:
-  With --mark the output has a comment after its declarations: the name, size and SHA-256 of the
-  capture, and the lines of the script whose edits are in force. It needs -o, and a capture that is
-  a file, which is read once more.
+  With --mark the output has a comment before `$enddefinitions`: the name, size and SHA-256 of the
+  capture, the options of a part, and the lines of the script whose edits are in force. It needs -o,
+  and a capture that is a file, which is read once more.
 
 A part:
   With --keep, --remove, --from or --to, a part of the capture is the output, or without -o goes to

@@ -8,7 +8,7 @@ ghost use Rattle.vcd_amend_program.specs.PartOutcome as spec;
 ghost use Rattle.vcd_amend_program.specs.inside.Jobs.{HasDepth, IsReady};
 
 use crate::amend_error::{AmendError, NO_MEMORY, NO_PART_FILE, NO_SCRIPT, NOT_READ};
-use crate::capture_mark::{digest_of, head_of};
+use crate::capture_mark::{digest_of, head_of, part_lines};
 use crate::command_line::Options;
 use crate::inputs::{find_file, inputs_of, open_input};
 use crate::job::{Job, PartJob, run_of};
@@ -73,7 +73,8 @@ fn run_request<R: Runtime<File = File> + AllocGlobal>(
         return Err(AmendError::NotAFile);
     };
     let found = digest_of(rt, file)?;
-    let mark = head_of(named, found.size, found.digest.as_str());
+    let lines = part_lines(rt.alloc(), options)?;
+    let mark = head_of(named, found.size, found.digest.as_str(), lines.as_slice());
     let job = Job {
         options,
         capture,

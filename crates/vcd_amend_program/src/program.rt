@@ -132,7 +132,7 @@ fn run_on_path<'r, R: Runtime<File = File> + AllocGlobal>(
         return run_on_file(rt, capture, &job);
     }
     let found = digest_of(rt, capture)?;
-    let mark = head_of(path, found.size, found.digest.as_str());
+    let mark = head_of(path, found.size, found.digest.as_str(), &[]);
     let job = Job {
         options,
         capture: Some(capture),

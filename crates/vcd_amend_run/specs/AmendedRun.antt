@@ -40,9 +40,9 @@ RemainingThenDerived =
     ≡ (replay c es).signals
 
 -- a file with the state `t` means what the cuts among edits alone make of what a file with the
--- state `s` means, and has as many skipped variables
+-- state `s` means, but for its header, and has as many skipped variables
 pub record IsAfterCuts (s t : ParseState) (es : List Edit) : Type 0 where
-  pub means : meaning t ≡ replay (meaning s) (cuts es)
+  pub means : meaning t ≡ record (replay (meaning s) (cuts es)) { header = t.header }
   pub left_out : count_by is_skipped t.declared ≡ count_by is_skipped s.declared
 
 -- a replay on what a file means leaves of each kept variable a signal that can be left of it, or

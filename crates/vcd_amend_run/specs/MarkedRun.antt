@@ -8,15 +8,18 @@ use Rattle.vcd_text.specs.Meaning.{FileMeans}
 use Rattle.vcd_text.specs.WriteEnds.{TookBefore}
 use Rattle.vcd_text.specs.declared.fault.WriteError.{WriteError}
 use Rattle.vcd_copy.specs.Pieces.{Piece}
-use Rattle.vcd_copy.specs.Marks.{IsMarkedFile}
-use Rattle.vcd_copy.specs.MarkText.{mark_piece}
+use Rattle.vcd_copy.specs.Marks.{CommentBytes, with_mark, IsMark, with_comment}
+use Rattle.vcd_copy.specs.MarkText.{mark_with_edits}
 use Rattle.vcd_copy.specs.declared.marking.head.MarkHead.{MarkHead}
 use Rattle.vcd_script.specs.declared.running.run_error.RunError.TheVariants as run_errors
 use Rattle.vcd_script.specs.declared.running.run_error.Summary.{Summary}
 use Rattle.vcd_script.specs.Script.{script_lines}
-use Rattle.vcd_script.specs.Run.{RunOutcome}
+use Rattle.vcd_script.specs.Run.{RunOutcome, outcome}
 use Rattle.vcd_amend_run.specs.declared.running.AmendRunError.{AmendRunError}
-use Rattle.vcd_amend_run.specs.AmendRun.{IsAmendRun}
+use Rattle.vcd_hollow.specs.HollowRun.{last_capture}
+use Rattle.vcd_amend.specs.WhatStands.{ItemsStand}
+use Rattle.vcd_amend_run.specs.EditedText.{PiecesMean, edited_text, remaining_of_run}
+use Rattle.vcd_amend_run.specs.EditedText.{pieces_after_cuts}
 use Rattle.vcd_amend_run.specs.AmendRunEnds.{PassEnds, AllShow, IsShortFile, CanBeWritten}
 use Rattle.vcd_amend_run.specs.AmendRunEnds.{AmendRunEnds, ForAmendRun}
 use Rattle.vcd_amend_run.specs.declared.running.AmendRunError.TheVariants.{Run, LineRefused}
@@ -24,26 +27,43 @@ use Rattle.vcd_amend_run.specs.declared.running.RunOptions.{RunOptions}
 use Rattle.vcd_amend_run.specs.EditsInForce.{lines_in_force}
 
 -- the mark with these edits, if one is asked for
-abbrev pub mark_with : Option MarkHead → (edit_lines : List (List ℕ)) → Option Piece
+abbrev pub mark_with : Option MarkHead → (edit_lines : List (List ℕ)) → Option CommentBytes
 mark_with None edit_lines = None
-mark_with (Some head) edit_lines = Some (mark_piece head edit_lines)
+mark_with (Some head) edit_lines = Some (mark_with_edits head edit_lines)
 
 -- the same with the lines whose edits are in force after the last line
 abbrev pub mark_of_run : Option MarkHead → Contents → (skipped depth : ℕ) → (lines : List (List ℕ))
-    → Option Piece
+    → Option CommentBytes
 mark_of_run head c skipped depth lines = mark_with head (lines_in_force c skipped depth lines)
 
 -- what is written if the lines of a script are run on what a capture file means, and the file is to
--- have a mark: what the same lines make of the file with the mark in it, which means the same
+-- have a mark: the replies of the run, and what the lines make of the file with the mark in it
 pub record IsMarkedRun (head : Option MarkHead) (file script : List ℕ) (depth : ℕ)
     (written : RunOutcome) : Type 0 where
   pub contents : Contents
   pub skipped : ℕ
-  pub means : FileMeans SIGNAL_LIMIT file contents skipped
-  pub marked : List ℕ
-  pub is_marked : IsMarkedFile SIGNAL_LIMIT
-      (mark_of_run head contents skipped depth (script_lines script)) file marked
-  pub run : IsAmendRun marked script depth written
+  pub pieces : List Piece
+  pub tail : List ℕ
+  pub means : PiecesMean file pieces tail contents skipped
+  pub run : written ≡ record (outcome contents skipped depth (script_lines script)) {
+    output = edited_text contents skipped depth (script_lines script)
+        (with_mark (mark_of_run head contents skipped depth (script_lines script)) pieces) tail;
+  }
+
+-- the text of an accepted file with a mark means the last capture, and has the mark in its header;
+-- what is not touched of the file with the mark stands after the cuts
+abbrev pub MarkedTextMeansLastCapture : Type 0
+MarkedTextMeansLastCapture =
+    (file : List ℕ) (pieces : List Piece) (tail : List ℕ) (c : Contents) (skipped depth : ℕ)
+    (lines : List (List ℕ)) (mark : CommentBytes) → IsMark mark
+    → PiecesMean file pieces tail c skipped →
+    let marked : List Piece = with_mark (Some mark) pieces in
+    let text : List ℕ = edited_text c skipped depth lines marked tail in
+    FileMeans SIGNAL_LIMIT text
+    (with_comment mark.words (last_capture c skipped depth lines)) skipped
+    × ItemsStand SIGNAL_LIMIT (remaining_of_run c skipped depth lines)
+    (last_capture c skipped depth lines).signals (pieces_after_cuts c skipped depth lines marked)
+    tail text
 
 -- what is asked of a run, the ends of the passes and of the script, and that of the writer of the
 -- replies

@@ -7,6 +7,7 @@ ghost use Rattle.vcd_amend_run.specs.EditedText.{RetimedCaptureIsReplayOfCuts};
 ghost use Rattle.vcd_amend_run.specs.EditedText.{AcceptedFileHasPieces, EditedTextMeansLastCapture};
 ghost use Rattle.vcd_amend_run.specs.EditedText.{NoCutLeavesPieces};
 ghost use Rattle.vcd_amend_run.specs.EditsInForce.{LinesInForceAskForEdits};
+ghost use Rattle.vcd_amend_run.specs.MarkedRun.{MarkedTextMeansLastCapture};
 ghost use Rattle.vcd_amend_run.specs.OutputRemarks.{NamedJustIfChangesDiffer};
 
 /// What a run leaves of the variables of a file can be left of them, in their order, and then come
@@ -21,10 +22,11 @@ pub fn signals_remain()
 /// Each accepted file that is edited in place means the last capture of the run, with as many
 /// variables skipped. After the cuts every item stands in it that no difference of the captures
 /// touches. This holds for any lines and depth, and however the file is cut into items with their
-/// bytes; it can always be cut so.
+/// bytes; it can always be cut so. With a mark the last entry of the header is the mark.
 pub fn edited_file_is_read_again()
     ensures pieces { AcceptedFileHasPieces }
     ensures text { EditedTextMeansLastCapture }
+    ensures marked { MarkedTextMeansLastCapture }
 {}
 
 /// The cuts in force leave ticks of a file and its end, and the file after them means what the cuts

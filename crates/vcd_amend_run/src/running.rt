@@ -8,7 +8,7 @@ ghost use Rattle.vcd_core.specs.CaptureContents.{contents};
 ghost use Rattle.vcd_core.specs.Devices.{device_end, HasPrefix};
 ghost use Rattle.vcd_core.specs.Sound.{IsSound};
 ghost use Rattle.vcd_copy.specs.CopyEnds.{CopyFails, TookFirst};
-ghost use Rattle.vcd_copy.specs.MarkText.{piece_of_mark};
+ghost use Rattle.vcd_copy.specs.MarkText.{comment_of_mark};
 ghost use Rattle.vcd_text.specs.declared.reading.TheConstants.{LONG_FILE_LIMIT};
 ghost use Rattle.vcd_journal.specs.Machine.{initial_machine};
 ghost use Rattle.vcd_hollow.specs.Origins.{origins};
@@ -597,7 +597,7 @@ fn remark_on_output<Q: Sink>(
 
 /// The mark with these edits, if one is asked for.
 fn mark_of<'a>(head: Option<MarkHead<'a>>, edits: &'a [Word]) -> Option<Mark<'a>>
-    ensures { piece_of_mark result ≡ mark_with head.entry edits.now }
+    ensures { comment_of_mark result ≡ mark_with head.entry edits.now }
 {
     match head {
         Some(head) => Some(Mark { head, edits }),

@@ -3,3 +3,4 @@ pub mod MarkBytes
 pub mod MarkWords
 pub mod MarkedFiles
 pub mod MarkedCopies
+pub mod MarkedItems

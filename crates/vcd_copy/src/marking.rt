@@ -1,11 +1,10 @@
 //! A mark in a written file: a comment that says by which version of the program it was written, of
-//! which file, and with which edits.
+//! which file or part of it, and with which edits.
 
-ghost use Rattle.std.specs.Prelude.{◌≡◌, ◌<◌, ◌∷◌, ◌++◌};
+ghost use Rattle.std.specs.Prelude.{◌≡◌, ◌<◌, ◌∷◌, ◌++◌, ℕ, List};
 ghost use Rattle.std.specs.List.{flat_map, join_with_byte};
 ghost use Rattle.vcd_text.specs.EmittedText.{Emits};
 ghost use Rattle.vcd_copy.specs.MarkText as spec;
-ghost use Rattle.vcd_copy.specs.Marks.{bytes_of_mark};
 
 mod head;
 mod marked;
@@ -23,24 +22,24 @@ pub struct Mark<'a> {
     pub edits: &'a [Word],
 }
 
-/// Writes a mark, if there is one.
-fn write_mark<W: Sink>(output: &mut Output<W>, mark: Option<Mark<'_>>)
-    ensures { Emits W.Sink output.old output.new (bytes_of_mark (spec.piece_of_mark mark.entry)) }
+/// Writes a mark.
+fn write_mark<W: Sink>(output: &mut Output<W>, mark: &Mark<'_>)
+    ensures { Emits W.Sink output.old output.new
+        (spec.mark_with_edits mark.now.head mark.now.edits.now).bytes }
 {
-    if let Some(mark) = mark {
-        write_head(output, mark.head);
-        write_edits(output, mark.edits);
-        write_bytes(output, b"\n$end");
-    }
+    write_head(output, mark.head);
+    write_lines(output, b"\npart", mark.head.part);
+    write_lines(output, b"\nedit", mark.edits);
+    write_bytes(output, b"\n$end");
 }
 
 /// Writes the lines on the program and on what was read.
 fn write_head<W: Sink>(output: &mut Output<W>, head: MarkHead<'_>)
     ensures { Emits W.Sink output.old output.new
-        (10 ∷ join_with_byte 32 (spec.title_words head.entry)
+        (join_with_byte 32 (spec.title_words head.entry)
         ++ 10 ∷ join_with_byte 32 (spec.read_words head.entry)) }
 {
-    write_bytes(output, b"\n$comment vcdedit-amend ");
+    write_bytes(output, b"$comment vcdedit-amend ");
     write_escaped(output, head.version);
     write_bytes(output, b"\nread ");
     write_escaped(output, head.name);
@@ -92,22 +91,22 @@ fn hex_digit(number: u8) -> u8
     87 + number
 }
 
-/// Writes the lines of the script, each on a line of its own.
-fn write_edits<W: Sink>(output: &mut Output<W>, lines: &[Word])
-    ensures { Emits W.Sink output.old output.new
-        (flat_map (λ line. 10 ∷ join_with_byte 32 (spec.edit_words line)) lines.now) }
+/// Writes lines, each on a line of its own after this line feed and word.
+fn write_lines<W: Sink>(output: &mut Output<W>, first: &[u8], lines: &[Word])
+    ensures { (word : List ℕ) → first.now ≡ 10 ∷ word → Emits W.Sink output.old output.new
+        (flat_map (λ line. 10 ∷ join_with_byte 32 (spec.line_words word line)) lines.now) }
 {
     for line in lines {
-        write_edit(output, line.as_slice());
+        write_line(output, first, line.as_slice());
     }
 }
 
-/// Writes the words of a line of the script.
-fn write_edit<W: Sink>(output: &mut Output<W>, line: &[u8])
-    ensures { Emits W.Sink output.old output.new
-        (10 ∷ join_with_byte 32 (spec.edit_words line.now)) }
+/// Writes the words of a line after a line feed and a word.
+fn write_line<W: Sink>(output: &mut Output<W>, first: &[u8], line: &[u8])
+    ensures { (word : List ℕ) → first.now ≡ 10 ∷ word → Emits W.Sink output.old output.new
+        (10 ∷ join_with_byte 32 (spec.line_words word line.now)) }
 {
-    write_bytes(output, b"\nedit");
+    write_bytes(output, first);
     for word in Words::new(line) {
         write_byte(output, b' ');
         write_bytes(output, word_in_comment(word.text));

@@ -7,7 +7,8 @@ use vcd_core::is_white_space;
 /// More bytes than any word has that is looked for.
 const WORD_BYTES: usize = 16;
 
-/// How far a search is. A mark comes right after the declarations, and is not looked for later.
+/// How far a search is. A mark is a comment of the declarations, or was one right after them, and
+/// is not looked for later.
 #[derive(Clone, Copy)]
 pub struct CaptureSearch {
     place: Place,
@@ -22,8 +23,12 @@ pub struct CaptureSearch {
 /// What the words so far end with.
 #[derive(Clone, Copy)]
 enum Place {
-    /// Declarations.
+    /// Whole declarations.
     Declarations,
+    /// `$comment` of the declarations.
+    Comment,
+    /// More words of a declaration, or of a comment.
+    Within,
     /// `$enddefinitions`.
     LastDeclaration,
     /// All declarations.
@@ -99,7 +104,7 @@ impl CaptureSearch {
             return;
         }
         let word = self.word.get(..self.len).unwrap_or(b"");
-        if matches!(self.place, Place::FirstComment) && word == b"vcdedit-amend".as_slice() {
+        if self.place.is_comment() && word == b"vcdedit-amend".as_slice() {
             self.has_mark = true;
         }
         self.place = next_place(self.place, word);
@@ -107,20 +112,33 @@ impl CaptureSearch {
     }
 }
 
-/// What the words end with after one more.
-fn next_place(place: Place, word: &[u8]) -> Place {
-    match place {
-        Place::LastDeclaration if word == b"$end".as_slice() => Place::Body,
-        Place::Body if word == b"$comment".as_slice() => Place::FirstComment,
-        Place::Declarations | Place::LastDeclaration => declared_place(word),
-        Place::Body | Place::FirstComment | Place::Over => Place::Over,
+impl Place {
+    /// Whether the next word is the first one of a comment that may be a mark.
+    fn is_comment(self) -> bool {
+        matches!(self, Place::Comment | Place::FirstComment)
     }
 }
 
-/// What words among the declarations end with, of which this is the last one.
-fn declared_place(word: &[u8]) -> Place {
+/// What the words end with after one more.
+fn next_place(place: Place, word: &[u8]) -> Place {
+    let ends = word == b"$end".as_slice();
+    match place {
+        Place::Declarations => begun_declaration(word),
+        Place::Comment | Place::Within if ends => Place::Declarations,
+        Place::Comment | Place::Within => Place::Within,
+        Place::LastDeclaration if ends => Place::Body,
+        Place::Body if word == b"$comment".as_slice() => Place::FirstComment,
+        Place::LastDeclaration | Place::Body | Place::FirstComment | Place::Over => Place::Over,
+    }
+}
+
+/// What words end with of which this one begins a declaration.
+fn begun_declaration(word: &[u8]) -> Place {
+    if word == b"$comment".as_slice() {
+        return Place::Comment;
+    }
     if word == b"$enddefinitions".as_slice() {
         return Place::LastDeclaration;
     }
-    Place::Declarations
+    Place::Within
 }

@@ -26,15 +26,6 @@ ends_early w end = nat_lt end w.last && nat_le w.last END_LIMIT
 abbrev pub still_shown : Request → List VariableDeclaration → List VariableDeclaration
 still_shown r declared = filter (λ d. removes r d && is_used r declared d.code) declared
 
--- whether a variable is left out, but meets no pattern to remove: then there are patterns to keep,
--- and it meets none of them
-abbrev pub is_left_out_by_keep : Request → VariableDeclaration → Bool
-is_left_out_by_keep r d = not (keeps r d) && not (removes r d)
-
--- how many variables are left out because they meet no pattern to keep
-abbrev pub left_out_by_keep : Request → List VariableDeclaration → ℕ
-left_out_by_keep r declared = bounded_count (length (filter (is_left_out_by_keep r) declared))
-
 -- a variable by its full name and its code
 abbrev pub named_variable : VariableDeclaration → NamedVariable
 named_variable d = record { name = declared_name d; code = d.code }
@@ -82,9 +73,7 @@ abbrev pub written_part : Request → List Piece → ParseState → TickRange �
 written_part r pieces s w = record {
   end = s.tick;
   ends_early = ends_early w s.tick;
-  removed = map declared_name (filter (removes r) s.declared);
   still_shown = map named_variable (still_shown r s.declared);
-  left_out_by_keep = left_out_by_keep r s.declared;
   comments = comment_count pieces;
   emptied_scopes = emptied_scopes r s.declared;
   events_left_out_at_first = map named_variable (events_left_out_at_first r w s.declared);

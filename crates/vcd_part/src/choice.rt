@@ -11,12 +11,12 @@ ghost use Rattle.vcd_part.specs.inside.Choice.{HasNoted};
 
 use crate::code_uses::is_event;
 use crate::name_text::read_name;
-use crate::named_variable::{NamedVariable, note_name, note_named_variable};
+use crate::named_variable::{NamedVariable, note_named_variable};
 use crate::patterns::Patterns;
 use crate::request::{Refusal, Request};
 use crate::scope_paths::ScopePaths;
 use std::alloc::Global;
-use vcd_core::{FullName, NoMemory, ScopeName, Timescale, Word};
+use vcd_core::{FullName, NoMemory, ScopeName, Timescale};
 use vcd_text::TickRange;
 
 /// The patterns of a request, with what the declarations so far say of them.
@@ -28,11 +28,7 @@ pub struct VariableChoice<'m, 'a> {
     /// How many variables are kept, of how many.
     pub kept: u64,
     pub all: u64,
-    /// How many meet neither a pattern to keep, if there are such patterns, nor one to remove.
-    pub left_out_by_keep: u64,
-    /// The full names of the variables to remove, in the order of the file.
-    pub removed_names: Vec<Word>,
-    /// The same, with their codes.
+    /// The variables to remove, in the order of the file.
     pub removed: Vec<NamedVariable>,
     /// The events that are kept, in the order of the file.
     pub events: Vec<NamedVariable>,
@@ -53,8 +49,6 @@ impl<'m, 'a> VariableChoice<'m, 'a> {
             remove: Patterns::new(alloc, request.remove)?,
             kept: 0,
             all: 0,
-            left_out_by_keep: 0,
-            removed_names: Vec::new(alloc),
             removed: Vec::new(alloc),
             events: Vec::new(alloc),
             scopes: ScopePaths::new(alloc),
@@ -87,7 +81,6 @@ impl<'m, 'a> VariableChoice<'m, 'a> {
         let name = FullName::new(scopes, self.name.as_slice(), &[]);
         let is_among_kept = self.keep.note(name, true);
         let is_removed = self.remove.note(name, false);
-        note_name(self.alloc, &mut self.removed_names, is_removed, name)?;
         note_named_variable(self.alloc, &mut self.removed, is_removed, name, code)?;
         let is_kept = is_kept(is_among_kept, is_removed);
         let is_kept_event = is_kept_event(is_kept, kind);
@@ -95,8 +88,6 @@ impl<'m, 'a> VariableChoice<'m, 'a> {
         self.scopes.note(scopes, is_kept)?;
         self.kept = count(self.kept, is_kept);
         self.all = self.all.saturating_add(1);
-        let is_left_out_by_keep = is_left_out_by_keep(is_kept, is_removed);
-        self.left_out_by_keep = count(self.left_out_by_keep, is_left_out_by_keep);
         Ok(is_kept)
     }
 
@@ -142,14 +133,6 @@ fn is_kept(is_among_kept: bool, is_removed: bool) -> bool
     ensures { result ≡ (is_among_kept && not is_removed) }
 {
     is_among_kept && !is_removed
-}
-
-/// Whether a variable that is kept, or not, and to be removed, or not, is left out by the patterns
-/// to keep alone.
-fn is_left_out_by_keep(is_kept: bool, is_removed: bool) -> bool
-    ensures { result ≡ (not is_kept && not is_removed) }
-{
-    !is_kept && !is_removed
 }
 
 /// Whether a variable of this kind, which is kept or not, is an event that is kept.

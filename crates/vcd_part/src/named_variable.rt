@@ -36,23 +36,6 @@ pub fn note_named_variable(
     Ok(())
 }
 
-/// Adds this full name, if it counts.
-pub fn note_name(
-    alloc: Global,
-    names: &mut Vec<Word>,
-    counts: bool,
-    name: FullName<'_>,
-) -> Result<(), NoMemory>
-    ensures { OnOk result (names.new.items ≡ (if counts
-        then names.old.items ++ name_bytes name.entry ∷ [] else names.old.items)) }
-{
-    if !counts {
-        return Ok(());
-    }
-    names.push(copy_name(alloc, name)?)?;
-    Ok(())
-}
-
 /// The bytes of a full name, in memory of their own.
 fn copy_name(alloc: Global, name: FullName<'_>) -> Result<Word, NoMemory>
     ensures { IfOk result (λ word. word ≡ name_bytes name.entry) }

@@ -19,13 +19,9 @@ pub struct WrittenPart {
     /// Whether the capture ends before the last tick that was asked for. A tick past [`END_LIMIT`],
     /// which no capture has, asks for all up to the end.
     pub ends_early: bool,
-    /// The full names of the variables that meet a pattern to remove, in the order of the file.
-    pub removed: Seq<Word>,
-    /// Those of them whose code a kept one has: under that code the part still shows their values.
+    /// The variables that meet a pattern to remove and whose code a kept one has, in the order of
+    /// the file: under that code the part still shows their values.
     pub still_shown: Seq<NamedVariable>,
-    /// How many variables are left out because they meet no pattern to keep, as far as a `u64`
-    /// goes. Those that meet a pattern to remove do not count.
-    pub left_out_by_keep: u64,
     /// How many comments of the declarations and other commands stay as they are, as far as a `u64`
     /// goes. `$date` and `$version` of the declarations do not count, nor does the comment of the
     /// part.
@@ -53,9 +49,7 @@ pub fn written_part(amender: PartAmender<'_, '_>, window: Option<TickRange>) -> 
     WrittenPart {
         end: tick,
         ends_early: ends_early(window, tick),
-        removed: Seq::from_vec(choice.removed_names),
         still_shown: still_shown(choice.removed, &codes),
-        left_out_by_keep: choice.left_out_by_keep,
         comments,
         emptied_scopes: choice.scopes.emptied(),
         events_left_out_at_first: events_left_out_at_first(

@@ -38,8 +38,8 @@ use window::Window;
 /// The count of a text of 2^128 bytes or more stops at the limit of its type.
 ///
 /// The time is that of sorting the changes, a part at a time; ticks without a change cost nothing.
-/// The memory is 96 KiB, and 48 bytes for each signal. For more than 4,096 signals it is 64 KiB,
-/// and 56 bytes for each.
+/// The memory is at most 96 KiB, and 48 bytes for each signal. For more than 4,096 signals it is
+/// 64 KiB, and 56 bytes for each.
 pub fn write<W: Sink>(alloc: Global, capture: &Capture, writer: &mut W) -> Result<(), WriteError>
     requires sound { IsSound (contents capture.now) }
     requires ready { W.has_failed writer.old ≡ false }

@@ -1,5 +1,5 @@
-//! What no clause states: messages, devices that fail midway, and worked cases of lines, sessions
-//! and whole runs.
+//! What no clause states: messages, devices that fail midway, and worked cases of lines and
+//! sessions.
 
 mod devices;
 mod example;
@@ -8,4 +8,3 @@ mod lines;
 mod messages;
 mod notation;
 mod sessions;
-mod worked;

@@ -1,10 +1,12 @@
 -- The text of a file after cuts does not hang on the greatest number of kept variables.
-use Rattle.std.proofs.Common.{◌≡◌, ◌∙◌, ◌++◌, ◌∷◌, [], ℕ, Bool, true, List, refl, sym, ap}
+use Rattle.std.proofs.Common.{◌≡◌, ◌∙◌, ◌++◌, ◌∷◌, [], ℕ, Bool, true, List, Option, refl, sym, ap}
 use Rattle.vcd_text.specs.Items.{Item, entry, timescale, scope, upscope, variable, end_definitions, stamp, scalar}
 use Rattle.vcd_text.specs.Items.{vector, real_or_string, dump_word, other}
 use Rattle.vcd_text.specs.Grammar.{ParseState, initial_state, state_after_item}
 use Rattle.vcd_copy.specs.Pieces.{Piece}
 use Rattle.vcd_copy.specs.Copied.{IsCopy}
+use Rattle.vcd_copy.specs.Marks.{CommentBytes, with_mark, marked_rules}
+use Rattle.vcd_copy.proofs.marks.MarkedCopies.{copy_with_mark_is_copy_of_marked}
 use Rattle.vcd_amend.specs.Amendment.{Amendment}
 use Rattle.vcd_amend.specs.AmendedCopy.{amendment_rules}
 use Rattle.vcd_amend.specs.AmendedText.{amended_text}
@@ -51,17 +53,22 @@ module _ (cut : ℕ → Bool) (n : ℕ) where
       (retimed_at (state_after_item s p.item) (held_of_step cut s held p) ps)
 
 -- the copy of a file by the rules is the amended file after the cuts
-pub copy_is_amended_after_cuts : (limit : ℕ) (cut : ℕ → Bool) (a : Amendment) (file text : List ℕ)
-    → IsCopy limit (retimed_rules cut (amendment_rules a 0)) file text → IsAmendedAfterCuts limit cut a file text
-copy_is_amended_after_cuts limit cut a file text copy = record {
-  pieces = copy.pieces;
-  tail = copy.tail;
-  cut = copy.cut;
-  allowed = copy.allowed;
-  in_body = copy.in_body;
-  is = copy.is ∙ retimed_copy_is_copy_of_retimed cut (amendment_rules a 0) copy.pieces copy.tail
-      ∙ copy_is_amended_text a 0 (pieces_after cut 0 copy.pieces) copy.tail
-      ∙ sym (text_at a true limit (initial_state 0) (pieces_after cut 0 copy.pieces) copy.tail)
-      ∙ ap (λ l. amended_text a true (initial_state limit) l copy.tail)
-      (sym (retimed_at cut limit (initial_state 0) [] copy.pieces));
-}
+pub copy_is_amended_after_cuts : (limit : ℕ) (mark : Option CommentBytes) (cut : ℕ → Bool) (a : Amendment)
+    (file text : List ℕ) → IsCopy limit (marked_rules mark (retimed_rules cut (amendment_rules a 0))) file text
+    → IsAmendedAfterCuts limit mark cut a file text
+copy_is_amended_after_cuts limit mark cut a file text copy =
+    let marked : List Piece = with_mark mark copy.pieces in
+    record {
+      pieces = copy.pieces;
+      tail = copy.tail;
+      cut = copy.cut;
+      allowed = copy.allowed;
+      in_body = copy.in_body;
+      is = copy.is
+          ∙ copy_with_mark_is_copy_of_marked mark (retimed_rules cut (amendment_rules a 0)) copy.pieces copy.tail
+          ∙ retimed_copy_is_copy_of_retimed cut (amendment_rules a 0) marked copy.tail
+          ∙ copy_is_amended_text a 0 (pieces_after cut 0 marked) copy.tail
+          ∙ sym (text_at a true limit (initial_state 0) (pieces_after cut 0 marked) copy.tail)
+          ∙ ap (λ l. amended_text a true (initial_state limit) l copy.tail)
+          (sym (retimed_at cut limit (initial_state 0) [] marked));
+    }

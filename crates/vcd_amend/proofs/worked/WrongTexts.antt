@@ -6,7 +6,7 @@ use Rattle.std.specs.Fmt.{digits}
 use Rattle.vcd_core.specs.declared.bit.Bit.TheVariants.{Zero, One}
 use Rattle.vcd_core.specs.Wave.{change, value_from, changes_from}
 use Rattle.vcd_core.specs.Contents.{SignalContents}
-use Rattle.vcd_text.specs.Items.{entry, variable, end_definitions, stamp, scalar, real_or_string, other}
+use Rattle.vcd_text.specs.Items.{variable, end_definitions, stamp, scalar, real_or_string, other}
 use Rattle.vcd_text.specs.Grammar.{initial_state}
 use Rattle.vcd_text.specs.Meaning.{changes_of_code}
 use Rattle.vcd_copy.specs.Pieces.{Piece, state_of_pieces}
@@ -35,6 +35,12 @@ high space = piece (scalar 49 (codes "!")) space (codes "1!")
 abbrev real : List ℕ → Piece
 real space = piece (real_or_string 114 (codes "1.5") (codes "r")) space (codes "r1.5 r")
 
+abbrev other_real : Piece
+other_real = piece (real_or_string 114 (codes "2.5") (codes "r")) (32 ∷ []) (codes "r2.5 r")
+
+abbrev real_of_wires : Piece
+real_of_wires = piece (real_or_string 114 (codes "1.5") (codes "!")) (32 ∷ []) (codes "r1.5 !")
+
 abbrev comment : List ℕ → Piece
 comment space = piece (other (codes "$comment") (codes "x" ∷ [])) space (codes "$comment x $end")
 
@@ -61,12 +67,18 @@ pulse name = record {
 abbrev both : List (Option SignalContents)
 both = Some (pulse (codes "a")) ∷ Some (pulse (codes "b")) ∷ []
 
-abbrev becomes : List Piece → Bool
-becomes text = may_become (may_go (state_of_pieces 8 file) both) (may_be_put_in (state_of_pieces 8 file) both
-    (pulse (codes "a") ∷ pulse (codes "b") ∷ [])) (initial_state 8) 0 file (declared ++ at 0 gap ∷ low gap ∷ at 5 gap
-    ∷ text)
+abbrev may_be_of : (file text : List Piece) → Bool
+may_be_of file text = may_become (may_go (state_of_pieces 8 file) both) (may_be_put_in (state_of_pieces 8 file) both
+    (pulse (codes "a") ∷ pulse (codes "b") ∷ [])) (initial_state 8) 0 file text
 
-amended : becomes (real gap ∷ comment gap ∷ at 7 gap ∷ high line ∷ at 8 line ∷ low line ∷ at 9 line ∷ []) ≡ true
+abbrev becomes : List Piece → Bool
+becomes text = may_be_of file (declared ++ at 0 gap ∷ low gap ∷ at 5 gap ∷ text)
+
+-- the changes of the pulse, and the last stamp
+abbrev rest : List Piece
+rest = at 7 gap ∷ high line ∷ at 8 line ∷ low line ∷ at 9 line ∷ []
+
+amended : becomes (real gap ∷ comment gap ∷ rest) ≡ true
 unfolding may_become changes_of_code value_from changes_from digits
 amended = refl
 
@@ -77,6 +89,31 @@ real_moved = refl
 comment_moved : becomes (real gap ∷ at 7 gap ∷ high line ∷ comment line ∷ at 8 gap ∷ low line ∷ at 9 line ∷ []) ≡ false
 unfolding may_become changes_of_code value_from changes_from digits
 comment_moved = refl
+
+comment_dropped : becomes (real gap ∷ rest) ≡ false
+unfolding may_become changes_of_code value_from changes_from digits
+comment_dropped = refl
+
+comment_added : becomes (real gap ∷ comment gap ∷ comment gap ∷ rest) ≡ false
+unfolding may_become changes_of_code value_from changes_from digits
+comment_added = refl
+
+-- another real, and another white space
+real_exchanged : becomes (other_real ∷ comment gap ∷ rest) ≡ false
+unfolding may_become changes_of_code value_from changes_from digits
+real_exchanged = refl
+
+space_exchanged : becomes (real line ∷ comment gap ∷ rest) ≡ false
+unfolding may_become changes_of_code value_from changes_from digits
+space_exchanged = refl
+
+-- a change to a real of the code of the wires goes, at 7, where the waves differ
+abbrev at_7 : List Piece
+at_7 = declared ++ at 0 gap ∷ low gap ∷ at 7 gap ∷ []
+
+real_of_wires_dropped : may_be_of (at_7 ++ real_of_wires ∷ []) at_7 ≡ false
+unfolding may_become changes_of_code value_from changes_from digits
+real_of_wires_dropped = refl
 
 -- ---- of the wires one is removed: the other one keeps the changes, also one that another follows at its tick
 

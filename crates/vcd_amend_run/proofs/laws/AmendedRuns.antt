@@ -10,16 +10,14 @@ use Rattle.std.proofs.lemmas.Option.{same_Some}
 use Rattle.vcd_core.specs.declared.capture.TheConstants.{SIGNAL_LIMIT}
 use Rattle.vcd_core.specs.Contents.{Contents, SignalContents, no_signal, signal_at}
 use Rattle.vcd_core.specs.Sound.{IsSound, IsSoundSignal}
-use Rattle.vcd_text.specs.Words.{words_of}
 use Rattle.vcd_text.specs.Grammar.{ParseState, VariableDeclaration, initial_state, kept_variables, is_skipped}
-use Rattle.vcd_text.specs.Grammar.{AllowsAll, Accepts}
+use Rattle.vcd_text.specs.Grammar.{AllowsAll}
 use Rattle.vcd_text.specs.Meaning.{declared_signal, meaning, FileMeans}
 use Rattle.vcd_copy.specs.Pieces.{Piece, IsCut, state_of_pieces}
 use Rattle.vcd_amend.specs.Amendment.{Amendment}
 use Rattle.vcd_amend.specs.AmendedText.{amended_text}
 use Rattle.vcd_amend.specs.WhatStands.{ItemsStand}
 use Rattle.vcd_amend.specs.GivenCodes.{IsSignalOf, AreSignalsOf, signals_left, amendment_for}
-use Rattle.vcd_text.proofs.shared.SoundMeaning.{meaning_is_sound}
 use Rattle.vcd_amend.proofs.what_stands.Whole.{untouched_items_stand}
 use Rattle.vcd_edit.specs.declared.edit.Edit.{Edit}
 use Rattle.vcd_edit.specs.declared.edit.Edit.TheVariants.{Cut}
@@ -180,7 +178,7 @@ all_drop P (suc n) [] all = tt
 all_drop P (suc n) (x ∷ xs) all = all_drop P n xs all.1
 
 -- edits change the end by cuts alone, and otherwise signals
-all_but_signals : (c : Contents) (es : List Edit)
+pub all_but_signals : (c : Contents) (es : List Edit)
     → replay c es ≡ record (replay c (cuts es)) { signals = (replay c es).signals }
 unfolding replay effect cuts
 all_but_signals c [] = refl
@@ -192,9 +190,10 @@ all_but_signals c (e ∷ es) =
 
 -- so a replay is known but for its signals
 replay_after_cuts : (s t : ParseState) (es : List Edit) → IsAfterCuts s t es
-    → replay (meaning s) es ≡ record (meaning t) { signals = (replay (meaning s) es).signals }
+    → record (replay (meaning s) es) { header = t.header }
+    ≡ record (meaning t) { signals = (replay (meaning s) es).signals }
 replay_after_cuts s t es after =
-    all_but_signals (meaning s) es
+    ap (λ (d : Contents). record d { header = t.header }) (all_but_signals (meaning s) es)
     ∙ ap (λ (d : Contents). record d { signals = (replay (meaning s) es).signals }) (sym after.means)
 
 pub remaining_are_of_variables : RemainingAreOfVariables
@@ -257,10 +256,10 @@ remaining_by_hollow silent c skipped depth lines same =
 -- ---- runs
 
 -- where the state `s` is that of an accepted file, and these pieces are that file after the cuts in force: amended for
--- the last capture of a run, they mean it, and each stands but those that may go
-pub amended_run_is_meant : (file : List ℕ) (s : ParseState) (depth : ℕ) (lines : List (List ℕ))
-    (after_cuts : List ℕ) (pieces : List Piece) (tail : List ℕ) → Accepts SIGNAL_LIMIT (words_of file) s
-    → IsCut after_cuts pieces tail → AllowsAll (initial_state SIGNAL_LIMIT) (map (λ p. p.item) pieces)
+-- the last capture of a run, they mean it, but for the header, and each stands but those that may go
+pub amended_run_is_meant : (s : ParseState) (depth : ℕ) (lines : List (List ℕ)) (after_cuts : List ℕ)
+    (pieces : List Piece) (tail : List ℕ) → IsSound (meaning s) → IsCut after_cuts pieces tail
+    → AllowsAll (initial_state SIGNAL_LIMIT) (map (λ p. p.item) pieces)
     → IsTrue (state_of_pieces SIGNAL_LIMIT pieces).in_body →
     let c : Contents = meaning s in
     let skipped : ℕ = count_by is_skipped s.declared in
@@ -271,9 +270,9 @@ pub amended_run_is_meant : (file : List ℕ) (s : ParseState) (depth : ℕ) (lin
     let a : Amendment = amendment_for t remaining (signals_derived (length c.signals) es after) in
     let text : List ℕ = amended_text a true (initial_state SIGNAL_LIMIT) pieces tail in
     IsAfterCuts s t es
-    → FileMeans SIGNAL_LIMIT text after skipped
+    → FileMeans SIGNAL_LIMIT text (record after { header = t.header }) skipped
     × ItemsStand SIGNAL_LIMIT remaining after.signals pieces tail text
-amended_run_is_meant file s depth lines after_cuts pieces tail accepted cut allows in_body same_cuts =
+amended_run_is_meant s depth lines after_cuts pieces tail whole_sound cut allows in_body same_cuts =
     let c : Contents = meaning s in
     let skipped : ℕ = count_by is_skipped s.declared in
     let t : ParseState = state_of_pieces SIGNAL_LIMIT pieces in
@@ -281,7 +280,7 @@ amended_run_is_meant file s depth lines after_cuts pieces tail accepted cut allo
     let after : Contents = last_capture c skipped depth lines in
     let remaining : List (Option SignalContents) = signals_remaining (length c.signals) es after in
     let derived : List SignalContents = signals_derived (length c.signals) es after in
-    let sound : IsSound after = (laws c skipped depth lines (meaning_is_sound file s accepted)).sound (length lines) in
+    let sound : IsSound after = (laws c skipped depth lines whole_sound).sound (length lines) in
     let parts = remaining_are_of_variables s t es sound same_cuts in
     let all : signals_left remaining ++ derived ≡ after.signals = remaining_then_derived c es in
     let few : length (signals_left remaining) + length derived ≤ SIGNAL_LIMIT =
@@ -295,7 +294,7 @@ amended_run_is_meant file s depth lines after_cuts pieces tail accepted cut allo
     let text : List ℕ = amended_text a true (initial_state SIGNAL_LIMIT) pieces tail in
     let stand = untouched_items_stand SIGNAL_LIMIT after_cuts pieces tail t remaining derived text cut allows refl
     in_body parts.0 parts.1 few refl in (
-      subst (FileMeans SIGNAL_LIMIT text after) same_cuts.left_out
+      subst (FileMeans SIGNAL_LIMIT text (record after { header = t.header })) same_cuts.left_out
           (subst (λ (d : Contents). FileMeans SIGNAL_LIMIT text d (count_by is_skipped t.declared))
           (ap (λ (ss : List SignalContents). record (meaning t) { signals = ss }) all
           ∙ sym (replay_after_cuts s t es same_cuts)) stand.0),

@@ -1,19 +1,17 @@
 -- No variable of a code is named just if those that a run leaves have the same changes.
 use Rattle.std.proofs.Common.{◌≡◌, ◌+◌, ◌≤◌, ◌⊎◌, ℕ, List, [], map, length, Option, sym, ap, subst}
-use Rattle.std.proofs.Common.{arith, IsTrue, All}
+use Rattle.std.proofs.Common.{arith, All}
 use Rattle.std.specs.Prelude.{bytes_eq, count_by}
 use Rattle.std.specs.List.{filter}
 use Rattle.std.proofs.lemmas.List.{length-append}
 use Rattle.vcd_core.specs.declared.capture.TheConstants.{SIGNAL_LIMIT}
 use Rattle.vcd_core.specs.Contents.{Contents, SignalContents}
 use Rattle.vcd_core.specs.Sound.{IsSound}
-use Rattle.vcd_text.specs.Words.{words_of}
-use Rattle.vcd_text.specs.Grammar.{ParseState, VariableDeclaration, initial_state, AllowsAll, Accepts, is_skipped}
+use Rattle.vcd_text.specs.Grammar.{ParseState, VariableDeclaration, initial_state, is_skipped}
 use Rattle.vcd_text.specs.Grammar.{kept_variables}
 use Rattle.vcd_text.specs.Meaning.{meaning}
-use Rattle.vcd_copy.specs.Pieces.{Piece, IsCut, state_of_pieces}
+use Rattle.vcd_copy.specs.Pieces.{Piece, state_of_pieces}
 use Rattle.vcd_text.proofs.part.FewSignals.{same_limit}
-use Rattle.vcd_text.proofs.shared.SoundMeaning.{meaning_is_sound}
 use Rattle.vcd_edit.specs.declared.edit.Edit.{Edit}
 use Rattle.vcd_hollow.specs.HollowRun.{last_edits, last_capture}
 use Rattle.vcd_script.proofs.shared.LawsOfRun.{laws}
@@ -24,9 +22,9 @@ use Rattle.vcd_amend_run.specs.OutputRemarks.{NamedJustIfChangesDiffer, left_apa
 use Rattle.vcd_amend.specs.RetimedLaws.{pieces_after}
 use Rattle.vcd_amend.proofs.given_codes.File.{state_of_file}
 use Rattle.vcd_amend_run.proofs.laws.AmendedRuns.{remaining_are_of_variables, remaining_then_derived}
+use Rattle.vcd_amend_run.proofs.laws.EditedFiles.{HaveStateBut, own_state, sound_pieces}
 use Rattle.vcd_amend_run.proofs.laws.EditedFiles.{is_after_cuts, retimed, same_declared}
 use Rattle.vcd_amend_run.proofs.remarks.ChangesLeft.{named_just_if_changes_differ}
-use Rattle.vcd_amend_run.proofs.running.AmendedRun.{cut_is_accepted}
 
 -- for a capture with so many skipped variables
 abbrev IsTold : (depth : ℕ) → (lines : List (List ℕ)) → (pieces : List Piece) → (code : List ℕ) → (c : Contents)
@@ -39,10 +37,9 @@ IsTold depth lines pieces code c skipped ds =
     let same : Type 0 = All (λ p. All (λ q. p.1.changes ≡ q.1.changes) left) left in
     ((named ≡ []) × same) ⊎ ((named ≡ map (λ p. p.0) left) × (same → ⊥))
 
-module _ (file : List ℕ) (pieces : List Piece) (tail : List ℕ) (depth : ℕ) (lines : List (List ℕ))
-    (cut : IsCut file pieces tail) (allowed : AllowsAll (initial_state SIGNAL_LIMIT) (map (λ p. p.item) pieces))
-    (in_body : IsTrue (state_of_pieces SIGNAL_LIMIT pieces).in_body)
-    (accepted : Accepts SIGNAL_LIMIT (words_of file) (state_of_pieces SIGNAL_LIMIT pieces)) where
+module _ (pieces : List Piece) (tail : List ℕ) (depth : ℕ) (lines : List (List ℕ))
+    (whole_sound : IsSound (meaning (state_of_pieces SIGNAL_LIMIT pieces)))
+    (own : HaveStateBut (state_of_pieces SIGNAL_LIMIT pieces) pieces tail) where
   abbrev s : ParseState
   s = state_of_pieces SIGNAL_LIMIT pieces
 
@@ -58,9 +55,9 @@ module _ (file : List ℕ) (pieces : List Piece) (tail : List ℕ) (depth : ℕ)
       let last : Contents = last_capture c skipped depth lines in
       let remaining : List (Option SignalContents) = signals_remaining (length c.signals) es last in
       let derived : List SignalContents = signals_derived (length c.signals) es last in
-      let cuts_made = is_after_cuts file pieces tail depth lines cut allowed in_body accepted in
-      let left = retimed file pieces tail depth lines cut allowed in_body accepted in
-      let sound : IsSound last = (laws c skipped depth lines (meaning_is_sound file s accepted)).sound (length lines) in
+      let cuts_made = is_after_cuts s pieces tail depth lines whole_sound own in
+      let left = retimed s pieces tail depth lines whole_sound own in
+      let sound : IsSound last = (laws c skipped depth lines whole_sound).sound (length lines) in
       let parts = remaining_are_of_variables s t es sound cuts_made in
       let few : length (signals_left remaining) + length derived ≤ t.limit =
       omega (
@@ -72,7 +69,7 @@ module _ (file : List ℕ) (pieces : List Piece) (tail : List ℕ) (depth : ℕ)
       ) in
       let state : IsFileState t = state_of_file SIGNAL_LIMIT after left.allowed left.cut.spelled in
       subst (IsTold depth lines pieces code c skipped)
-      (same_declared file pieces tail depth lines cut allowed in_body accepted)
+      (same_declared s pieces tail depth lines whole_sound own)
       (named_just_if_changes_differ t remaining derived state parts.0 parts.1 few code)
 
 pub named_variables_differ : NamedJustIfChangesDiffer
@@ -80,5 +77,5 @@ named_variables_differ file pieces tail c skipped depth lines is code =
     let s : ParseState = state_of_pieces SIGNAL_LIMIT pieces in
     let Told : Contents → ℕ → Type 0 = λ d n. IsTold depth lines pieces code d n s.declared in
     subst (λ (d : Contents). Told d skipped) (sym is.means) (subst (Told (meaning s)) (sym is.left_out)
-    (is_told file pieces tail depth lines is.cut is.allowed is.in_body
-    (cut_is_accepted file pieces tail is.cut is.allowed is.in_body) code))
+    (is_told pieces tail depth lines (sound_pieces file pieces tail c skipped is)
+    (own_state file pieces tail c skipped is) code))

@@ -16,6 +16,7 @@ use Rattle.vcd_amend_run.specs.EditedText.{PiecesMean, edited_text, is_cut_out_b
 use Rattle.vcd_amend_run.specs.AmendRun.{IsAmendRun}
 use Rattle.vcd_amend_run.specs.AmendOnBytes.{IsEditedFile}
 use Rattle.vcd_amend_run.proofs.laws.EditedFiles.{can, edited_text_is_meant, no_cut_leaves_pieces}
+use Rattle.vcd_amend_run.proofs.laws.EditedFiles.{own_state, sound_pieces}
 use Rattle.vcd_amend_run.proofs.running.AmendedRun.{cut_is_accepted}
 
 module _ (file : List ℕ) (pieces : List Piece) (tail : List ℕ) (depth : ℕ) (lines : List (List ℕ))
@@ -44,8 +45,8 @@ module _ (file : List ℕ) (pieces : List Piece) (tail : List ℕ) (depth : ℕ)
         cut = cut;
         after = pieces_after_cuts (meaning s) skipped depth lines pieces;
         retimed = pieces_are_retimed (is_cut_out_by es) (tick_before_cuts es) SIGNAL_LIMIT file pieces tail
-            (can file pieces tail depth lines cut allowed in_body
-            (cut_is_accepted file pieces tail cut allowed in_body));
+            (can s pieces tail depth lines (sound_pieces file pieces tail (meaning s) skipped means)
+            (own_state file pieces tail (meaning s) skipped means));
         uncut = no_cut_leaves_pieces es SIGNAL_LIMIT pieces;
         stands = it.1;
       }

@@ -14,12 +14,15 @@ use Rattle.vcd_text.specs.declared.reading.TheConstants.{LONG_FILE_LIMIT}
 use Rattle.vcd_script.specs.declared.running.run_error.RunError.TheVariants as run_errors
 use Rattle.vcd_script.specs.declared.running.run_error.Summary.{Summary}
 use Rattle.vcd_script.specs.Script.{script_lines}
-use Rattle.vcd_script.specs.Run.{RunOutcome, IsRun}
+use Rattle.vcd_script.specs.Run.{RunOutcome, IsRun, outcome}
+use Rattle.vcd_copy.specs.Pieces.{Piece}
+use Rattle.vcd_copy.proofs.marks.MarkedFiles.{unmarked}
+use Rattle.vcd_amend_run.specs.EditedText.{edited_text}
 use Rattle.vcd_amend_run.specs.declared.running.AmendRunError.{AmendRunError}
 use Rattle.vcd_amend_run.specs.declared.running.AmendRunError.TheVariants as errors
 use Rattle.vcd_amend_run.specs.declared.running.RunOptions.{RunOptions}
 use Rattle.vcd_amend_run.specs.AmendRun.{IsAmendRun}
-use Rattle.vcd_amend_run.specs.MarkedRun.{MarkedRunEnds}
+use Rattle.vcd_amend_run.specs.MarkedRun.{IsMarkedRun, MarkedRunEnds}
 use Rattle.vcd_amend_run.specs.AmendRunEnds.{PassEnds, AllShow, FailsIn, TakesSkippedName, AmendRunEnds}
 use Rattle.vcd_amend_run.specs.AmendOnBytes.{IsEditedFile, IsRefusedLongFile, has_fault, too_large, AmendFails}
 use Rattle.vcd_amend_run.proofs.on_bytes.EditedFile.{run_of_amend_run}
@@ -28,7 +31,21 @@ use Rattle.vcd_amend_run.proofs.on_bytes.EditedFile.{run_of_amend_run}
 abbrev plain : (depth : ℕ) → RunOptions
 plain depth = record { depth = depth; mark = None; is_all_or_nothing = false }
 
--- without a mark a run ends as it is
+-- without a mark a run is as it is
+unmarked_run : (file script : List ℕ) (depth : ℕ) (written : RunOutcome) → IsMarkedRun None file script depth written
+    → IsAmendRun file script depth written
+unmarked_run file script depth written m = record {
+  contents = m.contents;
+  skipped = m.skipped;
+  pieces = m.pieces;
+  tail = m.tail;
+  means = m.means;
+  run = m.run ∙ ap (λ (ps : List Piece). record (outcome m.contents m.skipped depth (script_lines script)) {
+    output = edited_text m.contents m.skipped depth (script_lines script) ps m.tail;
+  }) (unmarked m.pieces);
+}
+
+-- and ends so
 pub unmarked_ends : (depth : ℕ) (passes : PassEnds) (lines replies out : DeviceEnd) (summary : Summary)
     → MarkedRunEnds (plain depth) passes lines replies (Some out) (Ok summary)
     → AmendRunEnds depth passes lines replies (Some out) (Ok summary)
@@ -40,7 +57,7 @@ unmarked_ends depth passes lines replies out summary ends = (
   λ file script shows is_script.
       let run = ends.run file script shows is_script in (
         run.0,
-        subst (λ (f : List ℕ). IsAmendRun f script depth run.0) run.1.is_marked run.1.run,
+        unmarked_run file script depth run.0 run.1,
         (run.2.0, run.2.1, run.2.2),
       ),
 )
@@ -134,8 +151,7 @@ module _ (file script : List ℕ) (depth : ℕ) (made : List ℕ) (passes : Pass
         (run.0, run.1, one.2.1 ∙ ap (λ (texts : List (List ℕ)). take count (concat texts)) run.2)
     refusal_of_run (errors.Run (run_errors.Write e)) ends =
         let one = rw (was_empty, sym made_is) at (ends.run file script shows is_script) in
-        let run = run_of_amend_run file script depth one.0
-        (subst (λ (f : List ℕ). IsAmendRun f script depth one.0) one.1.is_marked one.1.run) in
+        let run = run_of_amend_run file script depth one.0 (unmarked_run file script depth one.0 one.1) in
         (run.0, run.1, one.2.0 ∙ ap concat run.2)
     refusal_of_run errors.NameOfSkipped ends =
         let found = ends.2 file script shows is_script in (nothing_made ends.1.0, found.0, found.1, found.2)

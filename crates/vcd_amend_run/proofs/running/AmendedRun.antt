@@ -6,6 +6,7 @@ use Rattle.std.specs.List.{range_with_len}
 use Rattle.std.proofs.lemmas.List.{length-map}
 use Rattle.vcd_core.specs.declared.capture.TheConstants.{SIGNAL_LIMIT}
 use Rattle.vcd_core.specs.Contents.{Contents, SignalContents}
+use Rattle.vcd_core.specs.Sound.{IsSound}
 use Rattle.vcd_text.specs.Words.{words_of}
 use Rattle.vcd_text.specs.Grammar.{ParseState, initial_state, kept_variables, is_skipped}
 use Rattle.vcd_text.specs.Grammar.{AllowsAll, Accepts}
@@ -29,7 +30,7 @@ use Rattle.vcd_amend_run.specs.EditedText.{PiecesMean, edited_text, pieces_after
 use Rattle.vcd_amend.specs.KnownSignals.{KnowsSignals}
 use Rattle.vcd_amend_run.proofs.laws.AmendedRuns.{remaining_by_hollow}
 use Rattle.vcd_hollow.proofs.shared.Cuts.{count_after_cuts}
-use Rattle.vcd_amend_run.proofs.laws.EditedFiles.{is_after_cuts, same_declared}
+use Rattle.vcd_amend_run.proofs.laws.EditedFiles.{HaveStateBut, sound_pieces, is_after_cuts, same_declared}
 use Rattle.vcd_copy.proofs.shared.SpelledItems.{cut_spells_items}
 use Rattle.vcd_amend_run.proofs.running.KnownRun.{all_known}
 
@@ -133,45 +134,44 @@ IsKnownForRun silent c skipped depth lines pieces a =
     (origins (length c.signals) (last_edits c skipped depth lines))
     (last_capture (hollow silent c) skipped depth lines).signals a
 
--- so it is that of the run
-pub known_is_of_run : (file : List ℕ) (pieces : List Piece) (tail : List ℕ) (silent : ℕ → Bool)
-    (c : Contents) (skipped depth : ℕ) (lines : List (List ℕ)) (a : Amendment) → PiecesMean file pieces tail c skipped
-    → AreHeard silent (origins_asked c skipped depth lines)
-    → IsKnownForRun silent c skipped depth lines pieces a
-    → a ≡ amendment_of_run c skipped depth lines pieces
-known_is_of_run file pieces tail silent c skipped depth lines a is =
-    let s : ParseState = state_of_pieces SIGNAL_LIMIT pieces in
-    let count : ℕ = count_by is_skipped s.declared in
-    let IsForRun : Contents → ℕ → Type 0 = λ d n. AreHeard silent (origins_asked d n depth lines)
-    → IsKnownForRun silent d n depth lines pieces a → a ≡ amendment_of_run d n depth lines pieces in
-    let here : IsForRun (meaning s) count = λ heard known.
-    amendment_is_for_run s (state_of_pieces SIGNAL_LIMIT (pieces_after_cuts (meaning s) count depth lines pieces))
-    silent count depth lines a heard
-    (is_after_cuts file pieces tail depth lines is.cut is.allowed is.in_body
-    (cut_is_accepted file pieces tail is.cut is.allowed is.in_body)) known in
-    subst (λ (d : Contents). IsForRun d skipped) (sym is.means) (subst (IsForRun (meaning s)) (sym is.left_out) here)
+-- where these pieces of a file have a mark, or none
+module _ (file : List ℕ) (pieces marked : List Piece) (tail : List ℕ) (c : Contents) (skipped depth : ℕ)
+    (lines : List (List ℕ)) (is : PiecesMean file pieces tail c skipped)
+    (but : HaveStateBut (state_of_pieces SIGNAL_LIMIT pieces) marked tail) where
+  abbrev state : ParseState
+  state = state_of_pieces SIGNAL_LIMIT pieces
 
--- and the amended file is the edited one
-pub amended_text_is_edited : (file : List ℕ) (pieces : List Piece) (tail : List ℕ) (silent : ℕ → Bool)
-    (c : Contents) (skipped depth : ℕ) (lines : List (List ℕ)) (a : Amendment) → PiecesMean file pieces tail c skipped
-    → AreHeard silent (origins_asked c skipped depth lines)
-    → IsKnownForRun silent c skipped depth lines pieces a
-    → amended_text a true (initial_state SIGNAL_LIMIT) (pieces_after_cuts c skipped depth lines pieces) tail
-    ≡ edited_text c skipped depth lines pieces tail
-amended_text_is_edited file pieces tail silent c skipped depth lines a is asked is_known =
-    ap (λ (b : Amendment). amended_text b true (initial_state SIGNAL_LIMIT)
-    (pieces_after_cuts c skipped depth lines pieces) tail)
-    (known_is_of_run file pieces tail silent c skipped depth lines a is asked is_known)
+  abbrev sound : IsSound (meaning state)
+  sound = sound_pieces file pieces tail c skipped is
 
--- the file after the cuts in force has the variables of the file
-pub declared_after_cuts : (file : List ℕ) (pieces : List Piece) (tail : List ℕ) (c : Contents) (skipped depth : ℕ)
-    (lines : List (List ℕ)) → PiecesMean file pieces tail c skipped
-    → (state_of_pieces SIGNAL_LIMIT (pieces_after_cuts c skipped depth lines pieces)).declared
-    ≡ (state_of_pieces SIGNAL_LIMIT pieces).declared
-declared_after_cuts file pieces tail c skipped depth lines is =
-    let s : ParseState = state_of_pieces SIGNAL_LIMIT pieces in
-    let AreSame : Contents → ℕ → Type 0 = λ d n.
-    (state_of_pieces SIGNAL_LIMIT (pieces_after_cuts d n depth lines pieces)).declared ≡ s.declared in
-    subst (λ (d : Contents). AreSame d skipped) (sym is.means) (subst (AreSame (meaning s)) (sym is.left_out)
-    (same_declared file pieces tail depth lines is.cut is.allowed is.in_body
-    (cut_is_accepted file pieces tail is.cut is.allowed is.in_body)))
+  -- the amendment is that of the run
+  pub known_is_of_run : (silent : ℕ → Bool) (a : Amendment) → AreHeard silent (origins_asked c skipped depth lines)
+      → IsKnownForRun silent c skipped depth lines marked a → a ≡ amendment_of_run c skipped depth lines marked
+  known_is_of_run silent a =
+      let count : ℕ = count_by is_skipped state.declared in
+      let IsForRun : Contents → ℕ → Type 0 = λ d n. AreHeard silent (origins_asked d n depth lines)
+      → IsKnownForRun silent d n depth lines marked a → a ≡ amendment_of_run d n depth lines marked in
+      let here : IsForRun (meaning state) count = λ heard known.
+      amendment_is_for_run state
+      (state_of_pieces SIGNAL_LIMIT (pieces_after_cuts (meaning state) count depth lines marked)) silent count depth
+      lines a heard (is_after_cuts state marked tail depth lines sound but) known in
+      subst (λ (d : Contents). IsForRun d skipped) (sym is.means)
+      (subst (IsForRun (meaning state)) (sym is.left_out) here)
+
+  -- and the amended file is the edited one
+  pub amended_text_is_edited : (silent : ℕ → Bool) (a : Amendment)
+      → AreHeard silent (origins_asked c skipped depth lines) → IsKnownForRun silent c skipped depth lines marked a
+      → amended_text a true (initial_state SIGNAL_LIMIT) (pieces_after_cuts c skipped depth lines marked) tail
+      ≡ edited_text c skipped depth lines marked tail
+  amended_text_is_edited silent a asked is_known =
+      ap (λ (b : Amendment). amended_text b true (initial_state SIGNAL_LIMIT)
+      (pieces_after_cuts c skipped depth lines marked) tail) (known_is_of_run silent a asked is_known)
+
+  -- the file after the cuts in force has the variables of the file
+  pub declared_after_cuts :
+      (state_of_pieces SIGNAL_LIMIT (pieces_after_cuts c skipped depth lines marked)).declared ≡ state.declared
+  declared_after_cuts =
+      let AreSame : Contents → ℕ → Type 0 = λ d n.
+      (state_of_pieces SIGNAL_LIMIT (pieces_after_cuts d n depth lines marked)).declared ≡ state.declared in
+      subst (λ (d : Contents). AreSame d skipped) (sym is.means) (subst (AreSame (meaning state)) (sym is.left_out)
+      (same_declared state marked tail depth lines sound but))

@@ -6,16 +6,14 @@ use Rattle.std.specs.List.{concat, enumerate_from}
 use Rattle.std.specs.Io.KnownBytes.{Appends}
 use Rattle.vcd_core.specs.declared.capture.TheConstants.{SIGNAL_LIMIT}
 use Rattle.vcd_core.specs.Contents.{Contents}
-use Rattle.vcd_text.specs.Grammar.{ParseState, VariableDeclaration, is_skipped}
-use Rattle.vcd_text.specs.Grammar.{initial_state}
-use Rattle.vcd_text.specs.Meaning.{meaning, FileMeans}
+use Rattle.vcd_text.specs.Grammar.{ParseState, VariableDeclaration}
+use Rattle.vcd_text.specs.Meaning.{FileMeans}
 use Rattle.vcd_edit.specs.declared.edit.Edit.{Edit}
 use Rattle.vcd_journal.specs.Machine.{Machine, initial_machine}
 use Rattle.vcd_journal.specs.History.{replay}
 use Rattle.vcd_hollow.specs.Origins.{origins}
 use Rattle.vcd_core.specs.SignalOrigins.{RiseWithin, ComeFrom}
 use Rattle.vcd_hollow.proofs.shared.Origins.{origins_rise, signals_come_from_origins}
-use Rattle.vcd_text.proofs.shared.ResultIsUnique.{one_meaning}
 use Rattle.vcd_hollow.specs.Cuts.{cuts}
 use Rattle.vcd_hollow.specs.Hollow.{hollow}
 use Rattle.vcd_script.specs.Script.{script_lines}
@@ -28,19 +26,16 @@ use Rattle.vcd_hollow.proofs.shared.HollowRuns.{run_on_hollow}
 use Rattle.vcd_script.proofs.shared.LinesAndHistory.{outcome_is, last_capture as last_machine}
 use Rattle.vcd_copy.specs.Pieces.{Piece, state_of_pieces}
 use Rattle.vcd_amend.specs.Amendment.{Amendment}
-use Rattle.vcd_amend.specs.RetimedCopy.{IsAmendedAfterCuts, is_cut_by}
-use Rattle.vcd_amend.specs.RetimedLaws.{pieces_after}
 use Rattle.vcd_amend_run.specs.inside.CaptureAfterCuts.{capture_after_cuts}
 use Rattle.vcd_amend.specs.declared.cut_ticks.CutTicks.{CutTicks}
 use Rattle.vcd_amend.specs.KnownSignals.{IsAmendmentFor}
-use Rattle.vcd_amend.specs.AmendedText.{amended_text}
-use Rattle.vcd_amend_run.specs.EditedText.{PiecesMean, edited_text, pieces_after_cuts, is_cut_out_by}
+use Rattle.vcd_amend_run.specs.EditedText.{PiecesMean, edited_text, pieces_after_cuts}
 use Rattle.vcd_amend_run.specs.AmendRun.{IsAmendRun}
 use Rattle.vcd_amend_run.specs.inside.Running.{IsLaterCapture, IsPlanned, IsEdited}
-use Rattle.vcd_amend_run.proofs.laws.EditedFiles.{accepted_file_has_pieces}
+use Rattle.vcd_amend_run.proofs.laws.EditedFiles.{accepted_file_has_pieces, HaveStateBut}
 use Rattle.vcd_amend_run.proofs.running.AmendedRun.{IsKnownAmendment, IsKnownForRun, cut_is_accepted}
-use Rattle.vcd_amend_run.proofs.running.AmendedRun.{amended_text_is_edited, declared_after_cuts}
-use Rattle.vcd_amend_run.proofs.running.CutsInForce.{cut_by_is_cut_out, cuts_are_replayed, hollow_after_cuts}
+use Rattle.vcd_amend_run.proofs.running.AmendedRun.{declared_after_cuts}
+use Rattle.vcd_amend_run.proofs.running.CutsInForce.{cuts_are_replayed, hollow_after_cuts}
 
 -- ---- the script carried out
 
@@ -128,23 +123,24 @@ is_run file lines depth c skipped means =
       refl,
     )
 
--- the amendment that is known from the captures is known for the run
+-- the amendment that is known from the captures is known for the run, also with a mark
 pub known_for_run : (file lines : List ℕ) (depth : ℕ) (writes : Bool) (took : List ℕ → Type 0)
     (declared : List VariableDeclaration) (first : Contents) (ks : List ℕ) (cs : List CutTicks) (last : Contents)
-    (refused : ℕ) (a : Amendment) (pieces : List Piece) (tail : List ℕ)
+    (refused : ℕ) (a : Amendment) (pieces marked : List Piece) (tail : List ℕ)
     (edited : IsEdited file lines depth writes took declared first ks cs last refused)
     → IsAmendmentFor declared (capture_after_cuts first cs).signals ks last.signals a
     → PiecesMean file pieces tail edited.whole edited.skipped
-    → IsKnownForRun edited.silent edited.whole edited.skipped depth (script_lines lines) pieces a
-known_for_run file lines depth writes took declared first ks cs last refused a pieces tail edited is_for is =
+    → HaveStateBut (state_of_pieces SIGNAL_LIMIT pieces) marked tail
+    → IsKnownForRun edited.silent edited.whole edited.skipped depth (script_lines lines) marked a
+known_for_run file lines depth writes took declared first ks cs last refused a pieces marked tail edited is_for is but =
     let c : Contents = edited.whole in
     let all : List (List ℕ) = script_lines lines in
     let es : List Edit = last_edits c edited.skipped depth all in
     let s : ParseState = state_of_pieces SIGNAL_LIMIT pieces in
-    let t : ParseState = state_of_pieces SIGNAL_LIMIT (pieces_after_cuts c edited.skipped depth all pieces) in
+    let t : ParseState = state_of_pieces SIGNAL_LIMIT (pieces_after_cuts c edited.skipped depth all marked) in
     let variables : declared ≡ t.declared =
     edited.variables s (cut_is_accepted file pieces tail is.cut is.allowed is.in_body)
-    ∙ sym (declared_after_cuts file pieces tail c edited.skipped depth all is) in
+    ∙ sym (declared_after_cuts file pieces marked tail c edited.skipped depth all is but) in
     let firsts : capture_after_cuts first cs ≡ hollow edited.silent (replay c (cuts es)) =
     (λ i. capture_after_cuts (edited.hollow_is i) (edited.cuts_are i))
     ∙ cuts_are_replayed (hollow edited.silent c) es ∙ hollow_after_cuts edited.silent c es in
@@ -154,45 +150,3 @@ known_for_run file lines depth writes took declared first ks cs last refused a p
     edited.origins_are
     (subst (λ (d : Contents). IsKnownAmendment t d.signals ks last.signals a) firsts
     (λ whole knows. is_for t whole variables knows)))
-
--- with an output: the amended text is that of the run
-pub is_written : (file lines text : List ℕ) (depth : ℕ) (took : List ℕ → Type 0) (declared : List VariableDeclaration)
-    (first : Contents) (ks : List ℕ) (cs : List CutTicks) (last : Contents) (refused : ℕ) (a : Amendment)
-    → IsEdited file lines depth true took declared first ks cs last refused
-    → IsAmendmentFor declared (capture_after_cuts first cs).signals ks last.signals a
-    → IsAmendedAfterCuts SIGNAL_LIMIT (is_cut_by cs) a file text
-    → (written : RunOutcome) × IsAmendRun file lines depth written × took (concat written.replies)
-    × (text ≡ written.output) × (refused ≡ written.refused)
-is_written file lines text depth took declared first ks cs last refused a edited is_for amended =
-    let c : Contents = edited.whole in
-    let skipped : ℕ = edited.skipped in
-    let all : List (List ℕ) = script_lines lines in
-    let es : List Edit = last_edits c skipped depth all in
-    let pieces : List Piece = amended.pieces in
-    let s : ParseState = state_of_pieces SIGNAL_LIMIT pieces in
-    let accepted = cut_is_accepted file pieces amended.tail amended.cut amended.allowed amended.in_body in
-    let again : FileMeans SIGNAL_LIMIT file (meaning s) (count_by is_skipped s.declared) =
-    record { state = s; accepted = accepted; means = refl; left_out = refl } in
-    let one = one_meaning SIGNAL_LIMIT file c (meaning s) skipped (count_by is_skipped s.declared) edited.means again in
-    let is : PiecesMean file pieces amended.tail c skipped =
-    record {
-      cut = amended.cut;
-      allowed = amended.allowed;
-      in_body = amended.in_body;
-      means = one.0;
-      left_out = one.1;
-    } in
-    let known = known_for_run file lines depth true took declared first ks cs last refused a pieces amended.tail edited
-    is_for is in
-    let cut_out : is_cut_by cs ≡ is_cut_out_by es = ap is_cut_by edited.cuts_are ∙ cut_by_is_cut_out es in (
-      record (outcome c skipped depth all) {
-        output = edited_text c skipped depth all pieces amended.tail;
-      },
-      record { contents = c; skipped = skipped; pieces = pieces; tail = amended.tail; means = is; run = refl },
-      edited.replies,
-      amended.is
-          ∙ ap (λ (f : ℕ → Bool). amended_text a true (initial_state SIGNAL_LIMIT)
-          (pieces_after f SIGNAL_LIMIT pieces) amended.tail) cut_out
-          ∙ amended_text_is_edited file pieces amended.tail edited.silent c skipped depth all a is edited.heard known,
-      edited.count,
-    )

@@ -116,9 +116,9 @@ module _ (o : RunOptions) (passes : PassEnds) (script replies : DeviceEnd) (decl
       → IsAmendedFor declared first ks cs last (mark_with o.mark edits) file text
       → (written : RunOutcome) × IsMarkedRun o.mark file lines o.depth written
       × HasText replies (concat written.replies) × (text ≡ written.output) × (refused ≡ written.refused)
-  written_for file lines text edits one lines_are (a, is_for, (marked, is_marked, amended)) =
-      marked_is_written file lines marked o.depth (Appends replies.before replies.after) declared first ks cs last
-      refused text o.mark edits a one lines_are is_for is_marked amended
+  written_for file lines text edits one lines_are (a, is_for, amended) =
+      marked_is_written file lines o.depth (Appends replies.before replies.after) declared first ks cs last refused
+      o.mark edits one lines_are text a is_for amended
 
   -- the file is written, with a mark if one is asked for
   pub ends_with_output : (edits : List (List ℕ)) (out : DeviceEnd) → AreEditedFor true

@@ -32,6 +32,7 @@ use Rattle.vcd_amend_run.specs.inside.dry_running.OriginHistory.{ticks_of_cuts}
 use Rattle.vcd_amend_run.specs.AmendRunEnds.{PassEnds, AllShow}
 use Rattle.vcd_amend_run.specs.TakenRemarks.{HasPrefixes, TakesRemarks}
 use Rattle.vcd_amend_run.specs.inside.Running.{IsPlanned, IsEdited, TakesLineRemarks, TakesOutputRemarks}
+use Rattle.vcd_amend_run.proofs.laws.EditedFiles.{own_state}
 use Rattle.vcd_amend_run.proofs.running.AmendedRun.{cut_is_accepted, known_is_of_run}
 use Rattle.vcd_amend_run.proofs.running.CarriedOut.{known_for_run}
 
@@ -121,10 +122,12 @@ module _ (file lines : List ℕ) (depth : ℕ) (writes : Bool) (took : List ℕ 
       let here : PiecesMean file pieces tail whole edited.skipped =
       subst (λ n. PiecesMean file pieces tail whole n) one.1
       (subst (λ (d : Contents). PiecesMean file pieces tail d skipped) one.0 is) in
-      let known = known_for_run file lines depth writes took declared first ks cs last refused a pieces tail edited
-      is_for here in
+      let own = own_state file pieces tail whole edited.skipped here in
+      let known = known_for_run file lines depth writes took declared first ks cs last refused a pieces pieces tail
+      edited is_for here own in
       let amendment : a ≡ amendment_of_run whole edited.skipped depth all pieces =
-      known_is_of_run file pieces tail edited.silent whole edited.skipped depth all a here edited.heard known in
+      known_is_of_run file pieces pieces tail whole edited.skipped depth all here own edited.silent a edited.heard
+      known in
       let variables : declared ≡ (state_of_pieces SIGNAL_LIMIT pieces).declared =
       edited.variables (state_of_pieces SIGNAL_LIMIT pieces)
       (cut_is_accepted file pieces tail is.cut is.allowed is.in_body) in

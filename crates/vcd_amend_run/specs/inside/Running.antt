@@ -28,8 +28,8 @@ use Rattle.vcd_amend_run.specs.EditsInForce.{lines_in_force}
 use Rattle.vcd_amend_run.specs.AmendRunEnds.{PassEnds, AllShow, AmendRunEnds}
 use Rattle.vcd_amend.specs.Amendment.{Amendment}
 use Rattle.vcd_amend.specs.KnownSignals.{IsAmendmentFor}
-use Rattle.vcd_amend.specs.RetimedCopy.{IsAmendedWithMark, is_cut_by}
-use Rattle.vcd_copy.specs.Pieces.{Piece}
+use Rattle.vcd_amend.specs.RetimedCopy.{IsAmendedAfterCuts, is_cut_by}
+use Rattle.vcd_copy.specs.Marks.{CommentBytes}
 use Rattle.vcd_amend_run.specs.OutputRemarks.{output_remarks}
 use Rattle.vcd_amend_run.specs.inside.CaptureAfterCuts.{capture_after_cuts}
 use Rattle.vcd_amend_run.specs.declared.running.Passes.{Passes}
@@ -120,13 +120,14 @@ pub record IsEdited (file lines : List ℕ) (depth : ℕ) (writes : Bool) (took 
   pub replies : took (concat (outcome whole skipped depth (script_lines lines)).replies)
   pub count : refused ≡ (outcome whole skipped depth (script_lines lines)).refused
 
--- the text is the file after these cuts and with a mark, if there is one, and with an amendment
--- that is known from these captures
+-- the text is the file with a mark, if there is one, after these cuts, and with an amendment that
+-- is known from these captures
 abbrev pub IsAmendedFor : List VariableDeclaration → (first : Contents) → (ks : List ℕ)
-    → List CutTicks → (last : Contents) → (mark : Option Piece) → (file text : List ℕ) → Type 0
+    → List CutTicks → (last : Contents) → (mark : Option CommentBytes) → (file text : List ℕ)
+    → Type 0
 IsAmendedFor declared first ks cuts last mark file text = (a : Amendment)
     × IsAmendmentFor declared (capture_after_cuts first cuts).signals ks last.signals a
-    × IsAmendedWithMark SIGNAL_LIMIT mark (is_cut_by cuts) a file text
+    × IsAmendedAfterCuts SIGNAL_LIMIT mark (is_cut_by cuts) a file text
 
 -- it ends before the copy, where the file is to be written or not
 abbrev pub EndsBeforeCopy : (depth : ℕ) → (writes : Bool) → PassEnds → (script replies : DeviceEnd)

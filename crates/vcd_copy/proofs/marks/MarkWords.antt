@@ -1,23 +1,25 @@
 -- A mark is a comment: its words are words, and its bytes spell it.
 use Rattle.std.proofs.Common.{◌≡◌, ℕ, ◌∙◌, ◌+◌, ◌<◌, ◌/◌, ◌%◌, ◌^◌, ◌==◌, ◌&&◌, Bool, true, false, not, List, []}
-use Rattle.std.proofs.Common.{◌∷◌, ◌++◌, refl, ap, sym, arith, if◌then◌else◌, decimal, codes, length, map, nat_lt}
-use Rattle.std.proofs.Common.{append_assoc}
+use Rattle.std.proofs.Common.{◌∷◌, ◌++◌, refl, ap, arith, if◌then◌else◌, decimal, codes, length, map, nat_lt}
 use Rattle.std.specs.List.{list_all, flat_map, join_with_byte}
 use Rattle.std.specs.Str.{bytes_eq}
 use Rattle.std.specs.Char.{is_ascii_digit}
 use Rattle.std.proofs.lemmas.Bool.{and_from, and_parts, false_from_ne_true}
 use Rattle.std.proofs.lemmas.Bool.{ne_eqb}
 use Rattle.std.proofs.lemmas.Bool.Decides.{nat_tests}
+use Rattle.std.proofs.lemmas.Grind.{flat_map-append}
 use Rattle.std.proofs.lemmas.List.Folds.{list_all-append}
 use Rattle.std.proofs.lemmas.Slice.Eq.{bytes_eq-Decides}
 use Rattle.vcd_core.specs.Word.{is_white_space, is_word}
 use Rattle.vcd_text.specs.Words.{words_of}
 use Rattle.vcd_text.specs.inside.Words.{words_from}
-use Rattle.vcd_text.specs.Items.{end_word, spelling, has_no_end_word}
+use Rattle.vcd_core.specs.declared.capture.HeaderKind.TheVariants.{Comment}
+use Rattle.vcd_text.specs.Items.{entry, end_word, spelling, has_no_end_word}
 use Rattle.vcd_text.specs.Grammar.{word_texts}
 use Rattle.vcd_copy.specs.Marks.{IsMark}
 use Rattle.vcd_copy.specs.MarkText.{hex_digit, hex_of_byte, is_plain, escaped_byte, escaped_word, word_in_comment}
-use Rattle.vcd_copy.specs.MarkText.{title_words, read_words, edit_words, lines_of_mark, mark_words, mark_piece}
+use Rattle.vcd_copy.specs.MarkText.{title_words, read_words, line_words, later_lines, lines_of_mark, mark_words}
+use Rattle.vcd_copy.specs.MarkText.{mark_with_edits}
 use Rattle.vcd_copy.specs.MarkText.{EveryMarkIsComment}
 use Rattle.vcd_copy.specs.declared.marking.head.MarkHead.{MarkHead}
 use Rattle.vcd_text.proofs.read_back.Decimals.{decimal_digits, decimal_not_empty}
@@ -110,14 +112,25 @@ comment_words (w ∷ ws) runs =
     let parts = and_parts (is_run_text w) (list_all is_run_text ws) runs in
     and_from _ _ (comment_word w parts.0) (comment_words ws parts.1)
 
-edit_is_words : (line : List ℕ) → list_all is_word (edit_words line) ≡ true
-edit_is_words line = comment_words (word_texts (words_of line)) (texts_of_file_are_runs line)
+line_is_words : (first line : List ℕ) → is_word first ≡ true → list_all is_word (line_words first line) ≡ true
+line_is_words first line word =
+    and_from (is_word first) _ word (comment_words (word_texts (words_of line)) (texts_of_file_are_runs line))
 
-edits_are_words : (edits : List (List ℕ)) → list_all is_word (flat_map edit_words edits) ≡ true
-edits_are_words [] = refl
-edits_are_words (line ∷ edits) =
-    list_all-append is_word (edit_words line) (flat_map edit_words edits)
-    ∙ and_from _ _ (edit_is_words line) (edits_are_words edits)
+abbrev are_words : List (List (List ℕ)) → Bool
+are_words lines = list_all (λ ws. list_all is_word ws) lines
+
+lines_are_words : (first : List ℕ) (lines : List (List ℕ)) → is_word first ≡ true
+    → are_words (map (line_words first) lines) ≡ true
+lines_are_words first [] word = refl
+lines_are_words first (line ∷ lines) word =
+    and_from _ _ (line_is_words first line word) (lines_are_words first lines word)
+
+all_words_of : (lines : List (List (List ℕ))) → are_words lines ≡ true
+    → list_all is_word (flat_map (λ ws. ws) lines) ≡ true
+all_words_of [] words = refl
+all_words_of (ws ∷ lines) words =
+    let parts = and_parts (list_all is_word ws) (are_words lines) words in
+    list_all-append is_word ws (flat_map (λ ws. ws) lines) ∙ and_from _ _ parts.0 (all_words_of lines parts.1)
 
 -- ---- lines
 
@@ -139,24 +152,17 @@ words_of_lines (ws ∷ lines) unbroken =
     ∙ both_parts (join_with_byte 32 ws) more (lines_end lines)
     ∙ (λ i. joined_words ws parts.0 i ++ words_of_lines lines parts.1 i)
 
-edits_unbroken : (edits : List (List ℕ))
-    → list_all (λ ws. list_all is_unbroken ws) (map edit_words edits ++ (end_word ∷ []) ∷ []) ≡ true
-edits_unbroken [] = refl
-edits_unbroken (line ∷ edits) =
-    and_from _ _ (words_are_unbroken (edit_words line) (edit_is_words line)) (edits_unbroken edits)
-
-edits_in_turn : (edits : List (List ℕ)) → flat_map (λ ws. ws) (map edit_words edits ++ (end_word ∷ []) ∷ [])
-    ≡ flat_map edit_words edits ++ end_word ∷ []
-edits_in_turn [] = refl
-edits_in_turn (line ∷ edits) =
-    ap (λ (ws : List (List ℕ)). edit_words line ++ ws) (edits_in_turn edits)
-    ∙ sym (append_assoc (edit_words line) (flat_map edit_words edits) (end_word ∷ []))
+lines_unbroken : (lines : List (List (List ℕ))) → are_words lines ≡ true
+    → list_all (λ ws. list_all is_unbroken ws) (lines ++ (end_word ∷ []) ∷ []) ≡ true
+lines_unbroken [] words = refl
+lines_unbroken (ws ∷ lines) words =
+    let parts = and_parts (list_all is_word ws) (are_words lines) words in
+    and_from _ _ (words_are_unbroken ws parts.0) (lines_unbroken lines parts.1)
 
 -- the bytes end in `$end`
-edits_end : (edits : List (List ℕ))
-    → EndsInWord (flat_map (λ ws. line_of ws) (map edit_words edits ++ (end_word ∷ []) ∷ []))
-edits_end [] = ends_after (10 ∷ []) end_word (word_ends end_word refl)
-edits_end (line ∷ edits) = ends_after (line_of (edit_words line)) _ (edits_end edits)
+end_comes : (lines : List (List (List ℕ))) → EndsInWord (flat_map (λ ws. line_of ws) (lines ++ (end_word ∷ []) ∷ []))
+end_comes [] = ends_after (10 ∷ []) end_word (word_ends end_word refl)
+end_comes (ws ∷ lines) = ends_after (line_of ws) _ (end_comes lines)
 
 -- ---- the comment
 
@@ -170,10 +176,16 @@ module _ (head : MarkHead) (edits : List (List ℕ)) where
   version_is_word : is_word (escaped_word head.version.now) ≡ true
   version_is_word = escaped_is_word head.version.now
 
+  later_are_words : are_words (later_lines head edits) ≡ true
+  later_are_words =
+      list_all-append (λ ws. list_all is_word ws) (map (line_words (codes "part")) head.part.now)
+      (map (line_words (codes "edit")) edits)
+      ∙ and_from _ _ (lines_are_words (codes "part") head.part.now refl) (lines_are_words (codes "edit") edits refl)
+
   all_words : list_all is_word (mark_words head edits) ≡ true
   all_words = and_from true _ refl (and_from (is_word (escaped_word head.version.now)) _ version_is_word
-      (list_all-append is_word (read_words head) (flat_map edit_words edits)
-      ∙ and_from _ _ read_is_words (edits_are_words edits)))
+      (list_all-append is_word (read_words head) (flat_map (λ ws. ws) (later_lines head edits))
+      ∙ and_from _ _ read_is_words (all_words_of (later_lines head edits) later_are_words)))
 
   no_end : has_no_end_word (mark_words head edits) ≡ true
   no_end = all_weaker is_word (λ w. not (bytes_eq w end_word)) (λ w word. (and_parts _ _ word).1)
@@ -183,29 +195,22 @@ module _ (head : MarkHead) (edits : List (List ℕ)) where
   title_unbroken = and_from true _ refl (and_from true _ refl
       (words_are_unbroken (escaped_word head.version.now ∷ []) (and_from _ true version_is_word refl)))
 
-  spelled : word_texts (words_of (mark_piece head edits).body) ≡ spelling (mark_piece head edits).item
+  spelled : word_texts (words_of (mark_with_edits head edits).bytes) ≡ spelling (entry Comment (mark_words head edits))
   spelled =
-      texts_are (mark_piece head edits).body
+      texts_are (mark_with_edits head edits).bytes
       ∙ both_parts (join_with_byte 32 (title_words head)) _ refl
       ∙ (λ i. joined_words (title_words head) title_unbroken i
       ++ words_of_lines (lines_of_mark head edits) (and_from _ _ (words_are_unbroken (read_words head) read_is_words)
-      (edits_unbroken edits)) i)
-      ∙ ap (λ (ws : List (List ℕ)). title_words head ++ (read_words head ++ ws)) (edits_in_turn edits)
+      (lines_unbroken (later_lines head edits) later_are_words)) i)
+      ∙ ap (λ (ws : List (List ℕ)). title_words head ++ (read_words head ++ ws))
+      (flat_map-append (λ ws. ws) (later_lines head edits) ((end_word ∷ []) ∷ []))
 
-  ends : EndsInWord (mark_piece head edits).body
+  ends : EndsInWord (mark_with_edits head edits).bytes
   ends = ends_after (join_with_byte 32 (title_words head)) _
-      (ends_after (line_of (read_words head)) _ (edits_end edits))
+      (ends_after (line_of (read_words head)) _ (end_comes (later_lines head edits)))
 
-  is_comment : IsMark (mark_piece head edits)
-  is_comment = record {
-    words = mark_words head edits;
-    is = refl;
-    no_end = no_end;
-    spelled = spelled;
-    tight = (refl, ends.ends);
-    space = refl;
-    apart = omega arith;
-  }
+  is_comment : IsMark (mark_with_edits head edits)
+  is_comment = record { no_end = no_end; spelled = spelled; tight = (refl, ends.ends) }
 
 pub every_mark_is_comment : EveryMarkIsComment
 every_mark_is_comment head edits = is_comment head edits

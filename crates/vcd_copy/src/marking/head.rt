@@ -2,6 +2,8 @@
 
 ghost use Rattle.std.specs.Prelude.{◌<◌, ◌^◌};
 
+use vcd_core::Word;
+
 /// What a mark says first.
 #[derive(Clone, Copy)]
 pub struct MarkHead<'a> {
@@ -13,5 +15,7 @@ pub struct MarkHead<'a> {
     pub size: u64,
     /// Its SHA-256, in hexadecimal digits.
     pub digest: &'a [u8],
+    /// Which part of it was taken: lines, each the name of an option and its value.
+    pub part: &'a [Word],
     ghost fits: { size < 2 ^ 64 },
 }

@@ -1,8 +1,13 @@
-//! An amender that also puts a mark after the declarations.
+//! An amender of the file with a mark: a comment right before `$enddefinitions`.
 
 ghost use Rattle.std.specs.Prelude.{◌≡◌, ◌++◌, ◌∷◌, [], ℕ, List, OnOk, OnErr};
 ghost use Rattle.vcd_copy.specs.Pieces.{Piece};
-ghost use Rattle.vcd_copy.specs.Copied.{IsTakenNext};
+ghost use Rattle.vcd_copy.specs.Copied.{IsTakenNext, IsNext, Shows};
+ghost use Rattle.vcd_copy.specs.Marks as spec;
+ghost use Rattle.vcd_copy.specs.Marks.{comment_piece};
+ghost use Rattle.vcd_copy.specs.MarkText.{comment_of_mark, mark_with_edits};
+ghost use Rattle.vcd_text.specs.Items.{Item};
+ghost use Rattle.vcd_text.specs.Grammar.{ParseState};
 ghost use Rattle.vcd_text.specs.EmittedText.{Emits, EmitsMore};
 
 use super::{Mark, write_mark};
@@ -10,35 +15,38 @@ use crate::copying::{AmendableItem, Amender, InPlace};
 use vcd_core::{NoMemory, ScopeName, Sink};
 use vcd_text::{Output, write_bytes};
 
-/// What an amender does to a file, and a mark after the declarations, if there is one.
+/// What an amender does to a file with a mark, if there is one.
 #[derive(Drop)]
 pub struct Marked<'a, A> {
+    /// It is told of the mark as of any other comment.
     pub amender: A,
     pub mark: Option<Mark<'a>>,
 }
 
 impl<'a, W: Sink, A: Amender<W>> Amender<W> for Marked<'a, A> {
-    ghost use Rattle.std.specs.Prelude.{ℕ, List};
-    ghost use Rattle.vcd_copy.specs.Marks.{marked_rules, bytes_of_mark};
-    ghost use Rattle.vcd_copy.specs.MarkText.{piece_of_mark};
+    ghost use Rattle.std.specs.Prelude.{Option};
+    ghost use Rattle.vcd_copy.specs.Marks.{CommentBytes, marked_rules, with_mark};
+    ghost use Rattle.vcd_copy.specs.MarkText.{comment_of_mark};
 
-    ghost Given = { A.Given × List ℕ };
+    ghost Given = { A.Given × Option CommentBytes };
 
-    ghost given = { λ m. (A.given m.amender, bytes_of_mark (piece_of_mark m.mark)) };
+    ghost given = { λ m. (A.given m.amender, comment_of_mark m.mark) };
 
     ghost rules = { λ g. marked_rules g.1 (A.rules g.0) };
 
-    ghost has_seen = { λ m. A.has_seen m.amender };
+    ghost has_seen = { λ m pieces.
+        A.has_seen m.amender (with_mark (comment_of_mark m.mark) pieces) };
 
-    ghost has_ended = { λ m. A.has_ended m.amender };
+    ghost has_ended = { λ m pieces.
+        A.has_ended m.amender (with_mark (comment_of_mark m.mark) pieces) };
 
     ghost is_done = { λ m. A.is_done m.amender };
 
     fn settle(&mut self, item: AmendableItem, code: &[u8]) -> InPlace {
-        if let AmendableItem::EndDefinitions { .. } = item {
-            return InPlace::Other;
+        match mark_before(self.mark, item) {
+            Some(_) => InPlace::Other,
+            None => self.amender.settle(item, code),
         }
-        self.amender.settle(item, code)
     }
 
     fn take(
@@ -50,12 +58,13 @@ impl<'a, W: Sink, A: Amender<W>> Amender<W> for Marked<'a, A> {
         space: &[u8],
         body: &[u8],
     ) -> Result<(), NoMemory> {
-        if let AmendableItem::EndDefinitions { .. } = item {
-            take_settled(&mut self.amender, output, item, code, scopes, space, body)?;
-            write_mark(output, self.mark);
-            return Ok(());
+        match mark_before(self.mark, item) {
+            Some(mark) => {
+                put_mark(&mut self.amender, output, &mark, space);
+                take_settled(&mut self.amender, output, item, code, scopes, b"\n", body)
+            }
+            None => self.amender.take(output, item, code, scopes, space, body),
         }
-        self.amender.take(output, item, code, scopes, space, body)
     }
 
     fn write_before(&self, output: &mut Output<W>) {
@@ -73,6 +82,43 @@ impl<'a, W: Sink, A: Amender<W>> Amender<W> for Marked<'a, A> {
     fn finish(&mut self, output: &mut Output<W>, space: &[u8]) -> Result<(), NoMemory> {
         self.amender.finish(output, space)
     }
+}
+
+/// The mark, if it comes before this item.
+fn mark_before<'a>(mark: Option<Mark<'a>>, item: AmendableItem) -> Option<Mark<'a>>
+    ensures { (s : ParseState) (code : List ℕ) (i : Item) → Shows s item code i →
+        comment_of_mark result ≡ spec.mark_before (comment_of_mark mark.entry) i }
+{
+    match item {
+        AmendableItem::EndDefinitions { .. } => mark,
+        _ => None,
+    }
+}
+
+/// Writes a mark after this white space, and tells an amender of it.
+fn put_mark<W: Sink, A: Amender<W>>(
+    amender: &mut A,
+    output: &mut Output<W>,
+    mark: &Mark<'_>,
+    space: &[u8],
+)
+    requires { (before : List Piece) × A.has_seen amender.old before }
+    ensures written { (before : List Piece) → A.has_seen amender.old before →
+        Emits W.Sink output.old output.new
+        ((A.rules (A.given amender.old)).before_others before
+        ++ (space.now ++ (mark_with_edits mark.now.head mark.now.edits.now).bytes)) }
+    ensures seen { (limit : ℕ) (before : List Piece) → A.has_seen amender.old before →
+        IsNext limit before
+        (comment_piece space.now (mark_with_edits mark.now.head mark.now.edits.now)) space.now
+        (mark_with_edits mark.now.head mark.now.edits.now).bytes →
+        A.has_seen amender.new (before
+        ++ comment_piece space.now (mark_with_edits mark.now.head mark.now.edits.now) ∷ []) }
+    ensures same { A.given amender.new ≡ A.given amender.old }
+{
+    amender.write_before(output);
+    write_bytes(output, space);
+    write_mark(output, mark);
+    amender.pass(true);
 }
 
 /// Writes what an amender has in the place of an item that it has not settled yet.

@@ -81,6 +81,7 @@ impl WaveList {
     }
 
     /// Takes a shared list back if no other wave has it any more.
+    #[inline(always)]
     pub fn take_back(&mut self)
         ensures changes { changes_of_list self.new ≡ changes_of_list self.old }
         ensures stays { self.old.shared ≡ None → self.new ≡ self.old }
@@ -95,6 +96,7 @@ impl WaveList {
     }
 
     /// Gives the wave its own list, if it has none yet; a copy has room for `more` changes.
+    #[inline(always)]
     pub fn make_own(&mut self, more: usize) -> Result<(), NoMemory>
         ensures changes { changes_of_list self.new ≡ changes_of_list self.old }
         ensures is_own { OnOk result (self.new.shared ≡ None) }

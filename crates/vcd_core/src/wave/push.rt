@@ -88,8 +88,7 @@ pub(crate) fn push_change_in_room(changes: &mut Vec<Change>, change: Change)
     ensures changes { changes.new.items ≡ changes.old.items ++ change ∷ [] }
     ensures room { vec_capacity changes.new ≡ vec_capacity changes.old }
 {
-    // `push` does not say that the room stays as it is
-    let _ = changes.insert(changes.len(), change);
+    changes.push_reserved(change);
 }
 
 /// Makes `value` the value from `tick` on. It changes only the end of the list.

@@ -3,7 +3,6 @@ use Rattle.std.proofs.Common.{◌≡◌, ◌∙◌, ◌&&◌, ℕ, Bool, true, f
 use Rattle.std.specs.Prelude.{IfSome, Some, None, filter, nat_lt}
 use Rattle.vcd_core.specs.Word.{is_one_of}
 use Rattle.vcd_text.specs.Grammar.{VariableDeclaration, ParseState}
-use Rattle.vcd_text.specs.AsDeclared.{declared_name}
 use Rattle.vcd_copy.specs.Pieces.{state_of_pieces}
 use Rattle.vcd_text.specs.declared.reading.choice.TickRange.{TickRange}
 use Rattle.vcd_part.specs.declared.amender.PartAmender.{PartAmender}
@@ -41,11 +40,10 @@ shown_are r declared = image_of_both named_variable (removes r)
     (λ (v : NamedVariable). is_used r declared v.code) declared
 
 -- the window, the end, and what is noted are those of the part
-pub said_of_part : (m : PartAmender) (window : Option TickRange) (early : Bool) (names : List (List ℕ))
+pub said_of_part : (m : PartAmender) (window : Option TickRange) (early : Bool)
     (shown events : List NamedVariable) (emptied : List (List ℕ)) (later : Bool)
     → IfSome window (λ w. early ≡ ends_early w m.tick)
     → IfSome window (λ w. later ≡ nat_lt 0 w.first)
-    → names ≡ m.choice.removed_names.items
     → ((r : Request) (declared : List VariableDeclaration) → AreUses m.codes r declared
     → shown ≡ filter (λ v. is_used r declared v.code) m.choice.removed.items)
     → ((r : Request) (declared : List VariableDeclaration) → AreUses m.codes r declared
@@ -55,28 +53,23 @@ pub said_of_part : (m : PartAmender) (window : Option TickRange) (early : Bool) 
     → IfSome window (λ w. IsSaid m w (record {
       end = m.tick;
       ends_early = early;
-      removed = names;
       still_shown = shown;
-      left_out_by_keep = m.choice.left_out_by_keep;
       comments = m.comments;
       emptied_scopes = emptied;
       events_left_out_at_first = events;
     }))
-said_of_part m None early names shown events emptied later early_is later_is names_are shown_is events_are
-    emptied_is = tt
-said_of_part m (Some w) early names shown events emptied later early_is later_is names_are shown_is events_are
-    emptied_is = λ before seen.
+said_of_part m None early shown events emptied later early_is later_is shown_is events_are emptied_is = tt
+said_of_part m (Some w) early shown events emptied later early_is later_is shown_is events_are emptied_is =
+    λ before seen.
     let s : ParseState = state_of_pieces 0 before in
     let tick = seen.known.tick in
     let noted = seen.known.noted in
     let counts = seen.comments in
-    let left_out = noted.left_out_by_keep in
     let are : shown ≡ map named_variable (still_shown m.request s.declared) =
     shown_is m.request s.declared seen.known.uses
     ∙ ap (filter (λ (v : NamedVariable). is_used m.request s.declared v.code)) noted.removed
     ∙ shown_are m.request s.declared in
     let early : early ≡ ends_early w s.tick = early_is ∙ ap (ends_early w) tick in
-    let names : names ≡ map declared_name (filter (removes m.request) s.declared) = names_are ∙ noted.removed_names in
     let left : events ≡ map named_variable (events_left_out_at_first m.request w s.declared) =
     events_are m.request s.declared seen.known.uses
     ∙ ap₂ (λ (b : Bool). filter (λ (v : NamedVariable).
@@ -87,9 +80,7 @@ said_of_part m (Some w) early names shown events emptied later early_is later_is
     λ i. record {
       end = tick i;
       ends_early = early i;
-      removed = names i;
       still_shown = are i;
-      left_out_by_keep = left_out i;
       comments = counts i;
       emptied_scopes = scopes i;
       events_left_out_at_first = left i;

@@ -6,7 +6,7 @@ use Rattle.vcd_part.specs.declared.request.Request.{Request}
 use Rattle.vcd_text.specs.AsDeclared.{declared_name}
 use Rattle.vcd_part.specs.Requests.{removes}
 use Rattle.vcd_part.specs.PartPieces.{kept_count, all_count}
-use Rattle.vcd_part.specs.WrittenPart.{named_variable, is_kept_event, left_out_by_keep}
+use Rattle.vcd_part.specs.WrittenPart.{named_variable, is_kept_event}
 use Rattle.vcd_part.specs.inside.Patterns.{HaveMet}
 use Rattle.vcd_part.specs.inside.ScopePaths.{AreScopes}
 
@@ -20,8 +20,6 @@ pub record HasNoted (c : VariableChoice) (r : Request)
     pub remove_met : HaveMet c.remove (map declared_name declared)
     pub kept : c.kept ≡ kept_count r declared
     pub all : c.all ≡ all_count declared
-    pub left_out_by_keep : c.left_out_by_keep ≡ left_out_by_keep r declared
     pub scopes : AreScopes c.scopes r declared
-    pub removed_names : c.removed_names.items ≡ map declared_name (filter (removes r) declared)
     pub events : c.events.items ≡ map named_variable (filter (is_kept_event r) declared)
     pub removed : c.removed.items ≡ map named_variable (filter (removes r) declared)

@@ -30,6 +30,7 @@ pub fn read_value(width: u64, digits: &[u8]) -> Result<Value, Fault>
 }
 
 /// Does what [`read_value`] does, for a width of at most 64 bits.
+#[inline(always)]
 pub fn read_letter_block(width: u64, digits: &[u8]) -> Result<LetterBlock, Fault>
     requires { width ≤ 64 }
     ensures { MatchResult result (λ block. WritesValue width digits.now
@@ -65,6 +66,7 @@ pub fn check_digits(width: u64, digits: &[u8]) -> Result<(), Fault>
 }
 
 /// Refuses an empty list of digits, and more digits than the width.
+#[inline(always)]
 fn check_count(width: u64, digits: &[u8]) -> Result<(), Fault>
     ensures { MatchResult result (λ _. (0 < length digits.now) × (length digits.now ≤ width))
         (λ fault. RefusesBinaryNumber width digits.now fault) }
@@ -82,6 +84,7 @@ fn check_count(width: u64, digits: &[u8]) -> Result<(), Fault>
 }
 
 /// The digits as letters, extended on the left to `width`; none if one is no binary digit.
+#[inline(always)]
 fn extended_block(width: u64, digits: &[u8]) -> Option<LetterBlock>
     requires narrow { width ≤ 64 }
     requires fits { length digits.now ≤ width }

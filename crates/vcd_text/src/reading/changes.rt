@@ -108,7 +108,7 @@ impl Parser {
 
     /// Sets a code to the value that a binary digit writes. The error is `BadChange` if there is no
     /// code, and `UnknownCode` if the code was not declared.
-    #[inline(always)]
+    #[inline(never)]
     fn take_scalar_change(&mut self, alloc: Global, digit: u8, code: &[u8]) -> Result<(), Fault>
         requires between { self.old.item ≡ items.Nothing }
         requires in_body { self.old.in_body ≡ true }
@@ -162,7 +162,7 @@ impl Parser {
     /// `UnknownCode` if the code was not declared, `BadChange` if the digits are no value, and
     /// `ValueTooLong` if they are too many.
     #[tactic(auto, using(crate::proofs::reading::changes::ChangeWords::ends_vector))]
-    #[inline(always)]
+    #[inline(never)]
     pub fn take_vector_code(&mut self, alloc: Global, code: &[u8]) -> Result<(), Fault>
         requires item { self.old.item ≡ items.Vector }
         requires reading { IsUnderway self.old }

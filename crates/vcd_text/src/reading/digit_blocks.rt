@@ -11,7 +11,23 @@ use vcd_core::{Bit, LetterBlock};
 
 /// The letters of at most 64 digits, after as many `pad` as are missing; none if one is no binary
 /// digit.
+#[inline(always)]
 pub fn block_of_digits(pad: Bit, digits: &[u8]) -> Option<LetterBlock>
+    requires { length digits.now ≤ 64 }
+    ensures { MatchOption result (list_all is_binary_digit digits.now ≡ false) (λ block.
+        (list_all is_binary_digit digits.now ≡ true) ×
+        HoldsLetters pad (letters_of_digits digits.now) 0 block) }
+{
+    // nearly all changes of one bit come here, and need no call
+    if digits.len() < 8 {
+        return with_digits(LetterBlock::filled(pad), digits);
+    }
+    block_of_eights(pad, digits)
+}
+
+/// Does what [`block_of_digits`] does, eight digits at a time.
+#[inline(never)]
+fn block_of_eights(pad: Bit, digits: &[u8]) -> Option<LetterBlock>
     requires { length digits.now ≤ 64 }
     ensures { MatchOption result (list_all is_binary_digit digits.now ≡ false) (λ block.
         (list_all is_binary_digit digits.now ≡ true) ×
@@ -63,6 +79,7 @@ fn with_two_state_digits(block: LetterBlock, digits: &[u8; 8]) -> LetterBlock
 }
 
 /// The block with the letters of the digits added at its low end; none if one is no binary digit.
+#[inline(always)]
 fn with_digits(block: LetterBlock, digits: &[u8]) -> Option<LetterBlock>
     ensures { MatchOption result (list_all is_binary_digit digits.now ≡ false) (λ more.
         (list_all is_binary_digit digits.now ≡ true) ×

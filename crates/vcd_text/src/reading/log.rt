@@ -33,6 +33,7 @@ pub struct LoggedChange {
 
 /// Appends a change to its group. Each group has the order of the file.
 #[tactic(auto, using(crate::proofs::reading::log::MovedToWaves::appended_steps))]
+#[inline(always)]
 pub fn append(
     groups: &mut Vec<Vec<LoggedChange>>,
     alloc: Global,

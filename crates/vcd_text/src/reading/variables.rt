@@ -62,7 +62,9 @@ impl Variable {
         ensures counted { OnOk result (self.new.expected_room.count ≡ 0) }
     {
         let more = replace(&mut self.expected_room.count, 0);
-        self.wave.reserve_exact(more)?;
+        if more > 0 {
+            self.wave.reserve_exact(more)?;
+        }
         self.wave.push_block(change.tick, change.block)
     }
 }

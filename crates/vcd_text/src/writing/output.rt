@@ -59,7 +59,7 @@ pub fn write_byte<W: Sink>(output: &mut Output<W>, byte: u8)
     ensures room { vec_capacity output.old.unsent ≤ vec_capacity output.new.unsent }
 {
     if has_room_for(&output.unsent, 1) {
-        let _ = output.unsent.push(byte);
+        output.unsent.push_reserved(byte);
         return;
     }
     write_bytes(output, &[byte]);

@@ -122,7 +122,7 @@ fn fill_letters(letters: &mut [u8], count: usize, block: LetterBlock)
 
 /// Pairs of letters, at the index of their bits in the low plane plus four times those in the high
 /// plane.
-const LETTER_PAIRS: [[u8; 2]; 16] = [
+static LETTER_PAIRS: [[u8; 2]; 16] = [
     *b"00", *b"01", *b"10", *b"11", *b"0z", *b"0x", *b"1z", *b"1x", //
     *b"z0", *b"z1", *b"x0", *b"x1", *b"zz", *b"zx", *b"xz", *b"xx",
 ];

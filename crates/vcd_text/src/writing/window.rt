@@ -22,9 +22,12 @@ pub const POSITIONS: u64 = SIGNAL_LIMIT as u64;
 /// The limit of the ticks in a key.
 pub const TICKS_IN_KEY: u64 = u64::MAX / POSITIONS;
 
-/// The least number of changes that a window has room for. A short list is sorted faster, and stays
-/// in a cache.
-const LEAST_KEYS: usize = 4096;
+/// How many changes a window has room for, if more signals do not ask for more. A short list is
+/// sorted faster, and stays in a cache.
+const ENOUGH_KEYS: usize = 4096;
+
+/// How many changes of each signal are enough, if signals are few.
+const KEYS_OF_SIGNAL: usize = 16;
 
 /// A window of ticks.
 #[derive(Drop)]
@@ -47,7 +50,8 @@ impl Window {
         requires sound { All (IsSoundSignal end) (map signal_contents signals.now) }
         ensures { IfOk result (IsReady end 1 signals.now) }
     {
-        let keys = Vec::with_capacity(alloc, signals.len().max(LEAST_KEYS))?;
+        let enough = ENOUGH_KEYS.min(KEYS_OF_SIGNAL * signals.len());
+        let keys = Vec::with_capacity(alloc, signals.len().max(enough))?;
         let cursors = first_changes(alloc, signals)?;
         let start_cursors = cursors.clone()?;
         Ok(Window {
@@ -188,5 +192,5 @@ fn push_in_room(keys: &mut Vec<u64>, key: u64)
     ensures items { keys.new.items ≡ keys.old.items ++ key ∷ [] }
     ensures room { vec_capacity keys.old ≤ vec_capacity keys.new }
 {
-    let _ = keys.push(key);
+    keys.push_reserved(key);
 }

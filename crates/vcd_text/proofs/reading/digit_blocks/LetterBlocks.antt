@@ -2,7 +2,7 @@
 -- row with one more block.
 use Rattle.std.proofs.Common.{◌≡◌, ℕ, zero, suc, ◌+◌, ◌-◌, ◌*◌, ◌/◌, ◌%◌, ◌<◌, ◌≤◌, true, false, if◌then◌else◌, List}
 use Rattle.std.proofs.Common.{[], ◌∷◌, ◌++◌, length, take, drop, get_or, refl, sym, ap, ◌∙◌, arith, inl, inr, add-one}
-use Rattle.std.specs.Prelude.{unwrap_or}
+use Rattle.std.specs.Prelude.{unwrap_or, MatchOption, Option, Some, None}
 use Rattle.std.specs.List.{list_all}
 use Rattle.std.specs.Simd.{first_chunks}
 use Rattle.std.proofs.Math.Seq.{take-add}
@@ -82,6 +82,19 @@ holds_both pad prefix back all old new whole holds adds = grind (arith, map-appe
 pub both_are_digits : (prefix back all : List ℕ) → prefix ++ back ≡ all → list_all is_binary_digit prefix ≡ true
     → list_all is_binary_digit back ≡ true → list_all is_binary_digit all ≡ true
 both_are_digits prefix back all whole first second = grind (arith, list_all-append, and_from)
+
+-- digits that are added to letters which are all `pad`
+pub first_digits : (pad : Bit) (digits : List ℕ) (old : LetterBlock) (o : Option LetterBlock)
+    → ((i : ℕ) → i < 64 → letter_in old i ≡ pad)
+    → MatchOption o (list_all is_binary_digit digits ≡ false)
+    (λ w. (list_all is_binary_digit digits ≡ true) × AddsLetters (letters_of_digits digits) old w)
+    → MatchOption o (list_all is_binary_digit digits ≡ false)
+    (λ w. (list_all is_binary_digit digits ≡ true) × HoldsLetters pad (letters_of_digits digits) 0 w)
+first_digits pad digits old None filled none = none
+first_digits pad digits old (Some w) filled (letters, adds) = (
+  letters,
+  adds pad [] (holds_each pad [] old (λ i inside. filled i inside ∙ sym (past_text pad [] i (omega arith)))),
+)
 
 -- ---- one block more
 

@@ -76,7 +76,7 @@ impl Variables {
     /// While the log is empty, a change before the part (`early`) goes to the wave at once. It
     /// replaces the one before it there; the log would hold both. `tick` does not tell that it is
     /// early: up to the first tick of the part it is 0.
-    #[inline(never)]
+    #[inline(always)]
     fn change_at(
         &mut self,
         alloc: Global,

@@ -9,9 +9,7 @@ returns c = record {
   remove_met = c.in_ok-new-2.ensures.met;
   kept = refl;
   all = refl;
-  left_out_by_keep = refl;
-  scopes = c.new-6.ensures c.args.request;
-  removed_names = c.new-3.ensures.items;
-  removed = c.new-4.ensures.items;
-  events = c.new-5.ensures.items;
+  scopes = c.new-5.ensures c.args.request;
+  removed = c.new-3.ensures.items;
+  events = c.new-4.ensures.items;
 }

@@ -1,9 +1,9 @@
 -- What is noted of the variable.
-use Rattle.std.proofs.Common.{◌≡◌, ◌∙◌, ◌&&◌, not, ap, ap₂, sym, map}
+use Rattle.std.proofs.Common.{◌≡◌, ◌∙◌, ap, sym, map}
 use Rattle.vcd_core.specs.FullName.{name_bytes}
 use Rattle.vcd_core.specs.Names.{name_in}
 use Rattle.vcd_part.specs.Requests.{keeps, removes}
-use Rattle.vcd_part.specs.WrittenPart.{named_variable, is_kept_event, is_left_out_by_keep}
+use Rattle.vcd_part.specs.WrittenPart.{named_variable, is_kept_event}
 use Rattle.vcd_text.specs.AsDeclared.{declared_name}
 use Rattle.vcd_part.proofs.choice.NotedVariables.{same_name, is_kept, is_removed, met_more, noted_more}
 use Rattle.vcd_part.proofs.choice.NotedVariables.{one_counted, all_counted, named_so, kept_event_so}
@@ -34,15 +34,10 @@ returns-clause-noted c = λ r declared d noted scopes kind code words.
           (c.note-is_removed.ensures.met (map declared_name declared) noted.remove_met);
       kept = c.count-self.ensures ∙ one_counted (keeps r) declared d _ _ noted.kept kept;
       all = c.saturating_add-self.ensures ∙ all_counted declared d _ noted.all;
-      left_out_by_keep = c.count-self-2.ensures ∙ one_counted (is_left_out_by_keep r) declared d _ _
-          noted.left_out_by_keep (c.is_left_out_by_keep-is_left_out_by_keep.ensures
-          ∙ ap₂ (λ a b. not a && not b) kept removed);
       scopes = c.in_ok-note.ensures r declared d noted.scopes scopes kept;
       events = c.in_ok-note_named_variable-2.ensures
           ∙ noted_more named_variable (is_kept_event r) declared d _ _ _ noted.events
           (kept_event_so r d _ _ _ kept kind c.is_kept_event-is_kept_event.ensures) (named_so d _ _ name code);
-      removed_names = c.in_ok-note_name.ensures
-          ∙ noted_more declared_name (removes r) declared d _ _ _ noted.removed_names removed name;
       removed = c.in_ok-note_named_variable.ensures
           ∙ noted_more named_variable (removes r) declared d _ _ _ noted.removed removed (named_so d _ _ name code);
     }
