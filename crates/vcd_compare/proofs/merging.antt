@@ -1,0 +1,2 @@
+-- Lemmas of `merging`.
+pub mod Cursors

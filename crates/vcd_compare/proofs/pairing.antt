@@ -1,0 +1,4 @@
+-- Lemmas of `pairing`.
+pub mod Positions
+pub mod Maps
+pub mod Walks

@@ -1,0 +1,6 @@
+-- What proofs of several modules need.
+pub mod FoundDifferences
+pub mod Tolerance
+pub mod Windows
+pub mod Steps
+pub mod ShortestRuns

@@ -1,0 +1,3 @@
+-- Worked cases.
+pub mod Differences
+pub mod ShortestRun

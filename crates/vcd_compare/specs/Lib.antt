@@ -1,0 +1,6 @@
+-- The definitions of comparisons, from a difference of two waves to the laws.
+pub mod Differences
+pub mod ShortestRun
+pub mod Laws
+pub mod Pairs
+pub mod inside

@@ -1,0 +1,4 @@
+pub mod WaveComparison
+pub mod ShortestRun
+pub mod Merging
+pub mod Pairing

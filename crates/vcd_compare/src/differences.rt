@@ -1,0 +1,50 @@
+//! The differences of two waves, as they are told.
+
+ghost use Rattle.std.specs.Prelude.{◌≡◌, ◌-◌, ◌<◌, ◌∷◌, ◌++◌, ◌^◌, [], List};
+ghost use Rattle.vcd_compare.specs.Differences.{summary};
+ghost use Rattle.vcd_compare.specs.declared.differences.Difference.{Difference as DifferenceTold};
+
+use vcd_text::TickRange;
+
+/// A difference of two waves, with both values at its first tick.
+#[derive(Debug, Drop, PartialEq)]
+pub struct Difference<V> {
+    pub ticks: TickRange,
+    pub value_in_a: V,
+    pub value_in_b: V,
+}
+
+/// How many differences there are, the first of them, and the last of the others.
+#[derive(Debug, Drop, PartialEq)]
+pub struct Differences<V> {
+    pub count: u64,
+    pub first: Option<Difference<V>>,
+    pub last: Option<Difference<V>>,
+}
+
+impl<V: Drop> Differences<V> {
+    /// No difference.
+    pub fn none() -> Differences<V>
+        ensures { result ≡ summary [] }
+    {
+        Differences {
+            count: 0,
+            first: None,
+            last: None,
+        }
+    }
+
+    /// Counts one more, which is the last of them.
+    pub fn add(&mut self, difference: Difference<V>)
+        requires { self.old.count < 2 ^ 64 - 1 }
+        ensures { (found : List (DifferenceTold V)) → self.old ≡ summary found →
+            self.new ≡ summary (found ++ difference ∷ []) }
+    {
+        self.count += 1;
+        if self.first.is_none() {
+            self.first = Some(difference);
+        } else {
+            self.last = Some(difference);
+        }
+    }
+}
