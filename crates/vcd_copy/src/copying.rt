@@ -4,11 +4,9 @@
 ghost use Rattle.std.specs.Prelude.{◌≡◌, ◌⊎◌, ◌<◌, ◌≤◌, ◌^◌, List, [], ℕ, true, false, length};
 ghost use Rattle.std.specs.Prelude.{OnOk, IsOk, IfErr, IfSome};
 ghost use Rattle.std.specs.Io.KnownBytes.{Appends, Keeps, IsAtEnd};
-ghost use Rattle.vcd_text.specs.Refusals.{IsRefusal};
 ghost use Rattle.vcd_copy.specs.Copied.{IsCopy, IsTold};
 ghost use Rattle.vcd_copy.specs.CopyEnds.{CopyFails, ReadFails, TookFirst};
-ghost use Rattle.vcd_copy.specs.inside.Copying.{TookCopy, TookBeginning};
-ghost use Rattle.vcd_text.specs.EmittedText.{EmitsMore};
+ghost use Rattle.vcd_copy.specs.inside.Copying.{TookCopy, TookBeginning, CopyGoesOn};
 ghost use Rattle.vcd_copy.specs.declared.copying.copy_error.CopyError.TheVariants as copy_errors;
 ghost use Rattle.vcd_text.specs.declared.fault.WriteError.TheVariants.{WriteFault};
 
@@ -27,7 +25,7 @@ use std::alloc::Global;
 pub use variable_words::VariableWords;
 use vcd_core::{Sink, Source};
 use vcd_text::{
-    Fault, FileReader, LONG_FILE_LIMIT, Output, ReadError, WriteError, empty_buffer, flush,
+    FileReader, LONG_FILE_LIMIT, Listener, Output, ReadError, WriteError, empty_buffer, flush,
     send_buffer,
 };
 
@@ -77,12 +75,27 @@ pub fn copy<R: Source, W: Sink, A: Amender<W>>(
         (W.has_failed writer.new)) }
 {
     let unsent = empty_buffer(alloc)?;
-    let mut output = Output {
-        unsent,
-        sent_count: 0,
-        writer,
+    let mut copier = Copier {
+        held: Held {
+            bytes: Vec::new(alloc),
+            space_len: 0,
+        },
+        amender,
+        output: Output {
+            unsent,
+            sent_count: 0,
+            writer,
+        },
     };
-    let copied = copy_all(alloc, reader, limit, amender, &mut output);
+    let copied = copy_within(alloc, reader, &mut copier, limit, LONG_FILE_LIMIT);
+    let Copier {
+        held,
+        amender,
+        mut output,
+    } = copier;
+    drop(held);
+    // the borrow ends here, so the contract can say what became of the amender
+    let _ = amender;
     send_buffer(&mut output);
     let Output {
         unsent,
@@ -118,85 +131,46 @@ fn end_copy<W: Sink>(
     }
 }
 
-/// Copies a file into the output. It stops early if the writer fails, or if the amender is done.
-fn copy_all<R: Source, W: Sink, A: Amender<W>>(
-    alloc: Global,
-    reader: &mut R,
-    limit: u32,
-    amender: &mut A,
-    output: &mut Output<W>,
-) -> Result<(), ReadError>
-    requires ready { R.has_failed reader.old ≡ false }
-    requires begins { A.has_seen amender.old [] }
-    ensures copied { OnOk result (W.has_failed output.new.writer.now ≡ false →
-        A.is_done amender.new ≡ false → IfSome (R.coming reader.old)
-        (λ file. (length file ≤ LONG_FILE_LIMIT)
-        × TookCopy W.Sink limit (A.rules (A.given amender.old)) output.old output.new file)) }
-    ensures begun { OnOk result (IfSome (R.coming reader.old) (TookBeginning W.Sink limit
-        (A.rules (A.given amender.old)) output.old output.new)) }
-    ensures told { OnOk result (W.has_failed output.new.writer.now ≡ false →
-        IfSome (R.coming reader.old)
-        (IsTold limit (A.is_done amender.new) (λ pieces. A.has_seen amender.new pieces
-        ⊎ A.has_ended amender.new pieces))) }
-    ensures ended { OnOk result (W.has_failed output.new.writer.now ≡ false →
-        A.is_done amender.new ≡ false → IsAtEnd (R.coming reader.new)) }
-    ensures same { OnOk result (A.given amender.new ≡ A.given amender.old) }
-    ensures not_failed { OnOk result (R.has_failed reader.new ≡ false) }
-    ensures more { EmitsMore W.Sink output.old output.new }
-    ensures fails { IfErr result (ReadFails limit LONG_FILE_LIMIT (R.coming reader.old)
-        (R.coming reader.new) (R.has_failed reader.new)) }
-{
-    copy_within(alloc, reader, amender, output, limit, LONG_FILE_LIMIT)
-}
-
 /// Copies a file with at most `limit` kept variables, and at most `most` bytes. It stops early if
 /// the writer fails, or if the amender is done.
 fn copy_within<R: Source, W: Sink, A: Amender<W>>(
     alloc: Global,
     reader: &mut R,
-    amender: &mut A,
-    output: &mut Output<W>,
+    copier: &mut Copier<W, A>,
     limit: u32,
     most: usize,
 ) -> Result<(), ReadError>
     requires small { most < 2 ^ 62 }
     requires ready { R.has_failed reader.old ≡ false }
-    requires begins { A.has_seen amender.old [] }
-    ensures copied { OnOk result (W.has_failed output.new.writer.now ≡ false →
-        A.is_done amender.new ≡ false → IfSome (R.coming reader.old) (λ file. (length file ≤ most)
-        × TookCopy W.Sink limit (A.rules (A.given amender.old)) output.old output.new file)) }
+    requires empty { copier.old.held.bytes.items ≡ [] }
+    requires begins { A.has_seen copier.old.amender.now [] }
+    ensures copied { OnOk result (W.has_failed copier.new.output.writer.now ≡ false →
+        A.is_done copier.new.amender.now ≡ false → IfSome (R.coming reader.old)
+        (λ file. (length file ≤ most)
+        × TookCopy W.Sink limit (A.rules (A.given copier.old.amender.now)) copier.old.output
+        copier.new.output file)) }
     ensures begun { OnOk result (IfSome (R.coming reader.old) (TookBeginning W.Sink limit
-        (A.rules (A.given amender.old)) output.old output.new)) }
-    ensures told { OnOk result (W.has_failed output.new.writer.now ≡ false →
-        IfSome (R.coming reader.old)
-        (IsTold limit (A.is_done amender.new) (λ pieces. A.has_seen amender.new pieces
-        ⊎ A.has_ended amender.new pieces))) }
-    ensures ended { OnOk result (W.has_failed output.new.writer.now ≡ false →
-        A.is_done amender.new ≡ false → IsAtEnd (R.coming reader.new)) }
-    ensures same { OnOk result (A.given amender.new ≡ A.given amender.old) }
+        (A.rules (A.given copier.old.amender.now)) copier.old.output copier.new.output)) }
+    ensures told { OnOk result (W.has_failed copier.new.output.writer.now ≡ false →
+        IfSome (R.coming reader.old) (IsTold limit (A.is_done copier.new.amender.now)
+        (λ pieces. A.has_seen copier.new.amender.now pieces
+        ⊎ A.has_ended copier.new.amender.now pieces))) }
+    ensures ended { OnOk result (W.has_failed copier.new.output.writer.now ≡ false →
+        A.is_done copier.new.amender.now ≡ false → IsAtEnd (R.coming reader.new)) }
+    ensures same { OnOk result (A.given copier.new.amender.now
+        ≡ A.given copier.old.amender.now) }
     ensures not_failed { OnOk result (R.has_failed reader.new ≡ false) }
-    ensures more { EmitsMore W.Sink output.old output.new }
-    ensures refused { IfErr result (λ e. IfSome (R.coming reader.old) (λ file.
-        IsRefusal limit most file (R.has_failed reader.new) (R.coming reader.new) e)) }
-    ensures failed { IfErr result (λ e. e.fault ≡ Fault.ReadFault →
-        R.has_failed reader.new ≡ true) }
-    ensures unfailed { IfErr result (λ e. (e.fault ≡ Fault.ReadFault → ⊥) →
-        R.has_failed reader.new ≡ false) }
+    ensures goes_on { CopyGoesOn W.Sink copier.old copier.new }
+    ensures fails { IfErr result (ReadFails limit most (R.coming reader.old)
+        (R.coming reader.new) (R.has_failed reader.new)) }
 {
-    let mut copier = Copier {
-        progress: FileReader::new(alloc, limit, most),
-        held: Held {
-            bytes: Vec::new(alloc),
-            space_len: 0,
-        },
-    };
-    while copier.take_chunk(alloc, reader, amender, output)? {
-        if output.writer.failed() {
-            return Ok(());
-        }
-        if amender.is_done() {
-            return Ok(());
-        }
+    let progress = FileReader::read_chunks(alloc, reader, copier, limit, most)?;
+    if copier.is_done() {
+        return Ok(());
     }
-    copier.finish(alloc, amender, output)
+    progress.finish(alloc, copier)?;
+    copier
+        .amender
+        .finish(&mut copier.output, copier.held.bytes.as_slice())?;
+    Ok(())
 }

@@ -2,8 +2,8 @@
 //!
 //! `read` gives the capture that a file means, or the file's one fault with its line. `read_part`
 //! gives a part of it. `write` writes the text of a capture, which reads back as the same capture.
-//! `Words` are the words of a text, each with its line. `FileReader` and `Parser` take a file in
-//! chunks, for those who make something else of its words.
+//! `Words` are the words of a text, each with its line. For those who make something else of a file
+//! a `FileReader` takes it in chunks: a `Listener` hears their words, and a `Parser` takes them.
 //!
 //! The format is defined in `specs/`: `Words`, `Letters`, `Items`, `Grammar`, `Meaning`, `Faults`,
 //! `Parts` and `Text`.
@@ -21,7 +21,8 @@ pub use laws::{
     prefix_has_one_fault, text_is_read_back,
 };
 pub use reading::choice::Unheard;
-pub use reading::file_reader::{FileReader, check_complete, complete_words_len, take_word};
+pub use reading::file_reader::{FileReader, take_word};
+pub use reading::listener::Listener;
 pub use reading::parser::{OpenItem, Parser};
 pub use reading::{
     Choice, CodeTargets, DeclaredSignal, FILE_LIMIT, LONG_FILE_LIMIT, Loaded, TickRange,

@@ -23,9 +23,11 @@ mod digit_blocks;
 mod digits;
 pub(crate) mod file_reader;
 mod keywords;
+pub(crate) mod listener;
 mod log;
 pub(crate) mod parser;
 pub(crate) mod part;
+mod part_listener;
 mod read_buffer;
 mod scopes;
 mod ticks_and_sizes;
@@ -35,6 +37,7 @@ mod variables;
 use crate::fault::ReadError;
 use crate::reading::choice::Whole;
 use crate::reading::file_reader::FileReader;
+use crate::reading::part_listener::PartListener;
 pub use binary_number::value_of_digits;
 pub use choice::{Choice, TickRange};
 pub use code_targets::CodeTargets;
@@ -164,7 +167,9 @@ fn read_within<R: Source, C: Choice>(
     ensures unfailed { IfErr result (λ e. (e.fault ≡ Fault.ReadFault → ⊥) →
         R.has_failed reader.new ≡ false) }
 {
-    let mut progress = FileReader::new(alloc, SIGNAL_LIMIT as u32, most);
-    while progress.take_chunk(alloc, reader, choice)? {}
-    progress.finish(alloc, choice)
+    let mut listener = PartListener { choice };
+    let limit = SIGNAL_LIMIT as u32;
+    let progress = FileReader::read_chunks(alloc, reader, &mut listener, limit, most)?;
+    let parser = progress.finish(alloc, &mut listener)?;
+    Ok(parser.into_loaded(alloc)?)
 }

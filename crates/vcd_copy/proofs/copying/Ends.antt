@@ -8,7 +8,6 @@ use Rattle.std.specs.Io.KnownBytes.{Appends, Keeps}
 use Rattle.vcd_core.specs.declared.device.Sink as sinks
 use Rattle.vcd_copy.specs.declared.copying.copy_error.CopyError.{CopyError}
 use Rattle.vcd_copy.specs.declared.copying.copy_error.CopyError.TheVariants as copy_errors
-use Rattle.vcd_text.specs.declared.fault.Fault.TheVariants as faults
 use Rattle.vcd_text.specs.declared.fault.ReadError.{ReadError}
 use Rattle.vcd_text.specs.declared.fault.WriteError.{WriteError}
 use Rattle.vcd_text.specs.declared.fault.WriteError.TheVariants.{WriteFault}
@@ -17,11 +16,9 @@ use Rattle.vcd_copy.specs.Copied.{CopyRules, IsCopy}
 use Rattle.vcd_copy.specs.CopyEnds.{CopyFails, ReadFails, TookFirst}
 use Rattle.vcd_text.specs.Words.{words_of}
 use Rattle.vcd_text.specs.Grammar.{ParseState, Accepts}
-use Rattle.vcd_text.specs.Refusals.{IsRefusal}
 use Rattle.vcd_text.specs.WriteEnds.{TookBefore}
 use Rattle.vcd_copy.specs.inside.Copying.{TookCopy, TookBeginning}
 use Rattle.vcd_text.specs.EmittedText.{Emits, EmitsMore, HasEmitted}
-use Rattle.vcd_text.specs.declared.reading.TheConstants.{LONG_FILE_LIMIT}
 use Rattle.vcd_text.proofs.shared.EmittedParts.{writes_both, writes_as, writes_part, whole_written, all_taken}
 use Rattle.vcd_text.proofs.shared.EmittedParts.{appends_kept, failed_prefix}
 
@@ -85,16 +82,6 @@ pub some_taken : {W : Type 0} {sink : sinks.Ghosts W} {before : Option (List ℕ
     (later : W) → HasEmitted sink before output text → Keeps (sink.taken output.writer.now) (sink.taken later)
     → (some : List ℕ) × Appends before (sink.taken later) some
 some_taken {text = text} later held kept = (take held.sent text, appends_kept _ _ _ _ held.prefix kept)
-
--- why reading fails
-pub read_fails : {T : Type 0} (limit : ℕ) (coming left : Option (List ℕ)) (failed : Bool) (r : Result T ReadError)
-    → IfErr r (λ e. IfSome coming (λ file. IsRefusal limit LONG_FILE_LIMIT file failed left e))
-    → IfErr r (λ e. e.fault ≡ faults.ReadFault → failed ≡ true)
-    → IfErr r (λ e. (e.fault ≡ faults.ReadFault → ⊥) → failed ≡ false)
-    → IfErr r (ReadFails limit LONG_FILE_LIMIT coming left failed)
-read_fails limit coming left failed (Ok x) refused has other = tt
-read_fails limit coming left failed (Err e) refused has other =
-    record { refused = refused; failed_reader = has; other = other }
 
 -- why a copy fails
 pub copy_fails : {W T S : Type 0} {sink : sinks.Ghosts W} {before : Option (List ℕ)} {output : Output W}

@@ -1,4 +1,4 @@
 -- Lemmas of `copier`.
-pub mod CopiedChunks
+pub mod WholeCopies
 pub mod Told
 pub mod BegunCopies

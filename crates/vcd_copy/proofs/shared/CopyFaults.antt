@@ -1,9 +1,11 @@
--- What a writer took that has failed, for another relation of a file and its copy, and before the copy began.
-use Rattle.std.proofs.Common.{◌≡◌, ◌∙◌, ℕ, Bool, false, List, sym}
-use Rattle.std.specs.Prelude.{Option, Result, Ok, Err, IfErr}
+-- How a copy ends early: what a writer took that has failed, and an error of memory.
+use Rattle.std.proofs.Common.{◌≡◌, ◌∙◌, ℕ, Bool, false, List, sym, refl}
+use Rattle.std.specs.Prelude.{Option, Some, None, IfSome, Result, Ok, Err, IfErr}
 use Rattle.std.proofs.lemmas.Bool.{false≢true}
 use Rattle.std.proofs.lemmas.Option.{IfSome_then}
-use Rattle.vcd_copy.specs.CopyEnds.{TookFirst}
+use Rattle.vcd_text.specs.MemoryErrors.{memory_error}
+use Rattle.vcd_text.specs.Refusals.{IsRefusal, no_memory}
+use Rattle.vcd_copy.specs.CopyEnds.{TookFirst, ReadFails}
 use Rattle.vcd_copy.specs.declared.copying.copy_error.CopyError.{CopyError}
 use Rattle.vcd_copy.specs.declared.copying.copy_error.CopyError.TheVariants as copy_errors
 
@@ -25,3 +27,16 @@ pub none_begun : (is_copy : (file text : List ℕ) → Type 0) (limit : ℕ) (co
 none_begun is_copy limit coming before after writer_failed (copy_errors.Read e) ready = tt
 none_begun is_copy limit coming before after writer_failed (copy_errors.Write e) ready =
     λ has_failed. absurd (false≢true (sym ready ∙ has_failed))
+
+-- memory ran out, while the reader has not failed
+pub memory_fails : (limit most : ℕ) (coming left : Option (List ℕ)) (failed : Bool) → failed ≡ false
+    → ReadFails limit most coming left failed memory_error
+memory_fails limit most coming left failed ready = record {
+  refused = refused coming;
+  failed_reader = λ is. absurd (cc is);
+  other = λ isnt. ready;
+}
+  where
+    refused : (coming : Option (List ℕ)) → IfSome coming (λ file. IsRefusal limit most file failed left memory_error)
+    refused None = tt
+    refused (Some file) = no_memory refl

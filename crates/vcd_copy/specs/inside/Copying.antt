@@ -16,7 +16,7 @@ use Rattle.vcd_copy.specs.Copied.{may_be_amended, is_comment_or_other, Shows}
 use Rattle.vcd_copy.specs.Copied.{IsNext, IsCopy}
 use Rattle.vcd_copy.specs.declared.copying.copier.Copier.{Copier}
 use Rattle.vcd_text.specs.inside.Words.{has_complete_words}
-use Rattle.vcd_text.specs.EmittedText.{Emits}
+use Rattle.vcd_text.specs.EmittedText.{Emits, EmitsMore}
 use Rattle.vcd_text.specs.inside.reading.Part.{Asked}
 use Rattle.vcd_text.specs.inside.reading.Scopes.{open_scopes}
 use Rattle.vcd_text.specs.inside.reading.Parser.{IsAtState}
@@ -186,15 +186,19 @@ pub record IsSpacedWord (before : List ℕ) (bytes text : List ℕ) : Type 0 whe
 
 -- ---- the file so far
 
--- these bytes were read; those before the buffer's were taken, and end in white space
-pub record HasCopiedFile {W : Type 0} (sink : sinks.Ghosts W) (limit : ℕ) (rules : CopyRules)
-    (has_seen : List Piece → Type 0) (start now : Output W) (copier : Copier)
-    (bytes : List ℕ) : Type 0 where
-  pub taken : List ℕ
-  pub is : bytes ≡ taken ++ copier.progress.buffer.bytes
-  pub complete : has_complete_words taken ≡ true
-  pub copied : HasCopied limit rules has_seen (Emits sink start now) copier.progress.parser
-      copier.held.bytes.items copier.held.space_len taken
+-- since its start a copier has taken these bytes
+pub record HasCopiedSince {W A Given : Type 0} (sink : sinks.Ghosts W) (given : A → Given)
+    (rules : Given → CopyRules) (has_seen : A → List Piece → Type 0) (limit : ℕ)
+    (start now : Copier W A) (m : Parser) (bytes : List ℕ)
+    : Type 0 where
+  pub same : given now.amender.now ≡ given start.amender.now
+  pub copied : HasCopied limit (rules (given start.amender.now)) (has_seen now.amender.now)
+      (Emits sink start.output now.output) m now.held.bytes.items now.held.space_len bytes
+
+-- a copier goes on: it has the amender and the writer of its start, and its output took more
+pub record CopyGoesOn {W A : Type 0} (sink : sinks.Ghosts W) (start now : Copier W A) : Type 0 where
+  pub same_amender : now.amender.ghost_name ≡ start.amender.ghost_name
+  pub more : EmitsMore sink start.output now.output
 
 -- the output took the copy of a file of these bytes
 pub record TookCopy {W : Type 0} (sink : sinks.Ghosts W) (limit : ℕ) (rules : CopyRules)

@@ -1,180 +1,66 @@
-//! A file in chunks, which is copied as it is read.
+//! The copier, which hears a file and writes it, with what an amender writes in the place of items.
 
-ghost use Rattle.std.specs.Prelude.{◌≡◌, ◌+◌, ◌++◌, ◌<◌, ◌≤◌, ℕ, List, true, false, Option};
-ghost use Rattle.std.specs.Prelude.{IfOk, OnOk, IfErr, IfSome};
+ghost use Rattle.std.specs.Prelude.{◌≡◌, ◌+◌, ◌++◌, ℕ, List, true, IfOk, OnOk};
 ghost use Rattle.vcd_text.specs.Words.{WordOnLine as WordInFile};
 ghost use Rattle.vcd_text.specs.LentWords.{words_left};
 ghost use Rattle.vcd_text.specs.LineFeeds.{line_feeds_in};
 ghost use Rattle.vcd_text.specs.inside.Words.{has_complete_words};
-ghost use Rattle.vcd_copy.specs.Copied.{IsTold};
-ghost use Rattle.vcd_copy.specs.inside.Copying.{HasCopied, HasCopiedFile, TookCopy};
+ghost use Rattle.vcd_copy.specs.inside.Copying.{HasCopied};
 ghost use Rattle.vcd_text.specs.inside.reading.Part.{unheard};
 ghost use Rattle.vcd_text.specs.inside.reading.Parser.{HasTakenWords, CanTake, AllWordsResult};
-ghost use Rattle.vcd_text.specs.inside.reading.FileReader.{HasReadBytes, FileReaderMatches};
-ghost use Rattle.vcd_text.specs.inside.reading.FileReader.{HasUntakenChunk, TakesChunk};
-ghost use Rattle.vcd_text.specs.inside.reading.FileReader.{RefusesFile};
-ghost use Rattle.vcd_text.specs.Refusals.{IsRefusal};
-ghost use Rattle.std.specs.Io.KnownBytes.{Consumes, IsAtEnd};
 ghost use Rattle.vcd_text.specs.EmittedText.{Emits, EmitsMore};
 
 use super::amender::Amender;
 use super::pieces::{Held, Unwritten, copy_word, hold, write_standing};
 use std::alloc::Global;
-use vcd_core::{Sink, Source};
-use vcd_text::{
-    Fault, FileReader, Output, Parser, ReadError, Words, check_complete, complete_words_len,
-};
+use vcd_core::Sink;
+use vcd_text::{Listener, Output, Parser, ReadError, Words};
 
-/// The progress of copying a file.
+/// What copies a file while it is read.
 #[derive(Drop)]
-pub struct Copier {
-    /// What was read.
-    pub progress: FileReader,
+pub struct Copier<'a, 'w, W, A> {
     /// What was taken, and is not written yet.
     pub held: Held,
+    /// What says what is in the place of items.
+    pub amender: &'a mut A,
+    /// What takes the copy.
+    pub output: Output<'w, W>,
 }
 
-impl Copier {
-    /// Reads a chunk, and copies the words that are then complete. Returns whether the source
-    /// gave a byte.
-    pub fn take_chunk<R: Source, W: Sink, A: Amender<W>>(
-        &mut self,
-        alloc: Global,
-        source: &mut R,
-        amender: &mut A,
-        output: &mut Output<W>,
-    ) -> Result<bool, ReadError>
-        requires ready { R.has_failed source.old ≡ false }
-        requires read_bytes { (limit : ℕ) × (most : ℕ) × (bytes : List ℕ)
-            × HasReadBytes limit most unheard self.old.progress bytes }
-        requires copying { (limit : ℕ) × (start : Output W) × (bytes : List ℕ)
-            × HasCopiedFile W.Sink limit (A.rules (A.given amender.old)) (A.has_seen amender.old)
-            start output.old self.old bytes }
-        ensures taken { OnOk result ((limit most : ℕ) (coming : Option (List ℕ)) →
-            FileReaderMatches limit most unheard coming (R.coming source.old) self.old.progress →
-            FileReaderMatches limit most unheard coming (R.coming source.new) self.new.progress) }
-        ensures copied { OnOk result ((limit : ℕ) (start : Output W) (bytes : List ℕ) →
-            HasCopiedFile W.Sink limit (A.rules (A.given amender.old)) (A.has_seen amender.old)
-            start output.old self.old bytes →
-            (chunk : List ℕ) × Consumes (R.coming source.old) (R.coming source.new) chunk
-            × HasCopiedFile W.Sink limit (A.rules (A.given amender.old)) (A.has_seen amender.new)
-            start output.new self.new (bytes ++ chunk)) }
-        ensures same { OnOk result (A.given amender.new ≡ A.given amender.old) }
-        ensures more { EmitsMore W.Sink output.old output.new }
-        ensures not_failed { OnOk result (R.has_failed source.new ≡ false) }
-        ensures ended { IfOk result (λ more. more ≡ false → IsAtEnd (R.coming source.new)) }
-        ensures fewer { IfOk result (λ more. more ≡ true
-            → self.new.progress.bytes_left < self.old.progress.bytes_left) }
-        ensures refused { IfErr result (λ e. (limit most : ℕ) (coming : Option (List ℕ)) →
-            FileReaderMatches limit most unheard coming (R.coming source.old) self.old.progress →
-            IfSome coming (λ file. IsRefusal limit most file (R.has_failed source.new)
-            (R.coming source.new) e)) }
-        ensures failed { IfErr result (λ e. e.fault ≡ Fault.ReadFault →
-            R.has_failed source.new ≡ true) }
-        ensures unfailed { IfErr result (λ e. (e.fault ≡ Fault.ReadFault → ⊥) →
-            R.has_failed source.new ≡ false) }
-    {
-        self.progress.buffer.make_room()?;
-        let unfinished_len = self.progress.buffer.len();
-        let Ok(count) = self
-            .progress
-            .buffer
-            .read_from(source, self.progress.bytes_left)
-        else {
-            return Err(ReadError::at(self.progress.line_feeds + 1, Fault::ReadFault));
-        };
-        if count > self.progress.bytes_left {
-            return Err(ReadError::at(self.progress.line_feeds + 1, Fault::TooLarge));
-        }
-        self.progress.bytes_left -= count;
-        self.copy_words_of_chunk(alloc, amender, output, unfinished_len)?;
-        Ok(count > 0)
-    }
+impl<'a, 'w, W: Sink, A: Amender<W>> Listener for Copier<'a, 'w, W, A> {
+    ghost use Rattle.std.specs.Prelude.{◌||◌};
+    ghost use Rattle.vcd_copy.specs.inside.Copying.{CopyGoesOn, HasCopiedSince};
 
-    /// Copies the complete words. The first `unfinished_len` bytes of the buffer are no white
-    /// space.
-    fn copy_words_of_chunk<W: Sink, A: Amender<W>>(
+    ghost asked = { λ _. unheard };
+
+    ghost goes_on = { CopyGoesOn W.Sink };
+
+    ghost has_heard = { HasCopiedSince W.Sink A.given A.rules A.has_seen };
+
+    ghost is_done = { λ c. W.has_failed c.output.writer.now || A.is_done c.amender.now };
+
+    fn take_words(
         &mut self,
         alloc: Global,
-        amender: &mut A,
-        output: &mut Output<W>,
-        unfinished_len: usize,
-    ) -> Result<(), ReadError>
-        requires reading { (limit : ℕ) × (most : ℕ) × (bytes : List ℕ)
-            × HasUntakenChunk limit most unheard self.old.progress unfinished_len bytes }
-        requires copying { (limit : ℕ) × (start : Output W) × (bytes : List ℕ)
-            × HasCopiedFile W.Sink limit (A.rules (A.given amender.old)) (A.has_seen amender.old)
-            start output.old self.old bytes }
-        ensures taken { (limit most : ℕ) (bytes : List ℕ) →
-            HasUntakenChunk limit most unheard self.old.progress unfinished_len bytes →
-            TakesChunk limit most unheard bytes result self.new.progress }
-        ensures copied { OnOk result ((limit : ℕ) (start : Output W) (bytes : List ℕ) →
-            HasCopiedFile W.Sink limit (A.rules (A.given amender.old)) (A.has_seen amender.old)
-            start output.old self.old bytes →
-            HasCopiedFile W.Sink limit (A.rules (A.given amender.old)) (A.has_seen amender.new)
-            start output.new self.new bytes) }
-        ensures same { OnOk result (A.given amender.new ≡ A.given amender.old) }
-        ensures more { EmitsMore W.Sink output.old output.new }
-        ensures bytes_left { self.new.progress.bytes_left ≡ self.old.progress.bytes_left }
-    {
-        let len = complete_words_len(self.progress.buffer.as_slice(), unfinished_len);
-        let complete = Words {
-            rest: &self.progress.buffer.as_slice()[..len],
-            line_feeds: self.progress.line_feeds,
-        };
-        self.progress.line_feeds = copy_words(
+        parser: &mut Parser,
+        words: Words,
+    ) -> Result<u64, ReadError> {
+        copy_words(
             alloc,
-            &mut self.progress.parser,
+            parser,
             &mut self.held,
-            amender,
-            output,
-            complete,
-        )?;
-        self.progress.buffer.remove_prefix(len);
-        Ok(())
+            self.amender,
+            &mut self.output,
+            words,
+        )
     }
 
-    /// Copies the word that the file's end completes, if there is one, and ends the copy.
-    pub fn finish<W: Sink, A: Amender<W>>(
-        self,
-        alloc: Global,
-        amender: &mut A,
-        output: &mut Output<W>,
-    ) -> Result<(), ReadError>
-        requires reading { (limit : ℕ) × (most : ℕ) × (bytes : List ℕ)
-            × HasReadBytes limit most unheard self.progress bytes }
-        requires copying { (limit : ℕ) × (start : Output W) × (bytes : List ℕ)
-            × HasCopiedFile W.Sink limit (A.rules (A.given amender.old)) (A.has_seen amender.old)
-            start output.old self bytes }
-        ensures copied { OnOk result ((limit : ℕ) (start : Output W) (bytes : List ℕ) →
-            HasCopiedFile W.Sink limit (A.rules (A.given amender.old)) (A.has_seen amender.old)
-            start output.old self bytes →
-            TookCopy W.Sink limit (A.rules (A.given amender.old)) start output.new bytes) }
-        ensures told { OnOk result ((limit : ℕ) (start : Output W) (bytes : List ℕ) →
-            HasCopiedFile W.Sink limit (A.rules (A.given amender.old)) (A.has_seen amender.old)
-            start output.old self bytes →
-            IsTold limit false (A.has_ended amender.new) bytes) }
-        ensures same { OnOk result (A.given amender.new ≡ A.given amender.old) }
-        ensures more { EmitsMore W.Sink output.old output.new }
-        ensures fault { IfErr result (λ e. (limit most : ℕ) (bytes : List ℕ) →
-            HasReadBytes limit most unheard self.progress bytes →
-            RefusesFile limit bytes e) }
-    {
-        let Copier { progress, mut held } = self;
-        let FileReader {
-            mut parser,
-            buffer,
-            line_feeds,
-            ..
-        } = progress;
-        let word = Words {
-            rest: buffer.as_slice(),
-            line_feeds,
-        };
-        copy_words(alloc, &mut parser, &mut held, amender, output, word)?;
-        check_complete(&parser, line_feeds + 1)?;
-        amender.finish(output, held.bytes.as_slice())?;
-        Ok(())
+    /// Whether the writer has failed, or the amender is done.
+    fn is_done(&self) -> bool {
+        if self.output.writer.failed() {
+            return true;
+        }
+        self.amender.is_done()
     }
 }
 

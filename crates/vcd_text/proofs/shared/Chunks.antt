@@ -3,7 +3,7 @@ use Rattle.std.proofs.Common.{◌≡◌, inl, inr, ℕ, zero, suc, ◌+◌, ◌-
 use Rattle.std.proofs.Common.{false, not, cond}
 use Rattle.std.proofs.Common.{List, [], ◌∷◌, ◌++◌, length, take, drop, get_or, Option, Some, None}
 use Rattle.std.proofs.Common.{IfSome, refl, sym}
-use Rattle.std.proofs.Common.{ap, ◌∙◌, subst, arith, append_assoc, length-append}
+use Rattle.std.proofs.Common.{ap, ap₂, ◌∙◌, subst, arith, append_assoc, length-append}
 use Rattle.std.specs.Prelude.{◌^◌, IsTrue, IsFalse}
 use Rattle.std.specs.List.{list_all}
 use Rattle.std.specs.Io.KnownBytes.{Consumes, Keeps, IsAtEnd}
@@ -16,6 +16,7 @@ use Rattle.vcd_core.specs.Word.{is_white_space}
 use Rattle.vcd_text.specs.declared.fault.Fault.TheVariants as faults
 use Rattle.vcd_text.specs.declared.fault.ReadError.{ReadError}
 use Rattle.vcd_text.specs.declared.reading.file_reader.FileReader.{FileReader}
+use Rattle.vcd_text.specs.declared.reading.listener.Listener as listeners
 use Rattle.vcd_text.specs.declared.reading.parser.Parser.{Parser}
 use Rattle.vcd_text.specs.Words.{WordOnLine}
 use Rattle.vcd_text.specs.inside.Words.{line_after, word_of, words_from}
@@ -28,6 +29,7 @@ use Rattle.vcd_text.specs.LineFeeds.{line_feeds_in}
 use Rattle.vcd_text.specs.inside.reading.Part.{Asked}
 use Rattle.vcd_text.specs.inside.reading.Parser.{HasTakenWords, RefusesWords}
 use Rattle.vcd_text.specs.inside.reading.FileReader.{HasTaken, HasUntakenChunk, HasReadBytes, RefusesFile}
+use Rattle.vcd_text.specs.inside.reading.FileReader.{HasHeard, FileReaderMatches}
 use Rattle.vcd_text.proofs.reading.file_reader.PrefixResults.{larger, failing}
 use Rattle.vcd_text.proofs.shared.NoWordLeft.{no_fault}
 use Rattle.vcd_text.proofs.shared.FaultOfPrefix.{longer_prefix_fault}
@@ -131,6 +133,55 @@ module _ (limit most : ℕ) (asked : Asked) (p : FileReader) (from len : ℕ)
       → RefusesWords limit (complete_words bytes) e
   now_refused e refused = subst (λ words. RefusesWords limit words e) (sym closed_now) refused
 
+-- ---- what a listener has heard
+
+both_complete : (a b : List ℕ) → has_complete_words a ≡ true → has_complete_words b ≡ true
+    → has_complete_words (a ++ b) ≡ true
+both_complete [] b first second = second
+both_complete (x ∷ []) [] first second = first
+both_complete (x ∷ []) (y ∷ b) first second = second
+both_complete (x ∷ y ∷ a) b first second = both_complete (y ∷ a) b first second
+
+-- it has heard no more where more bytes are in the buffer
+pub still_heard : {L : Type 0} {l : listeners.Ghosts L} {limit : ℕ} {start now : L} (old new : FileReader)
+    (bytes chunk : List ℕ) → HasHeard l limit start now old bytes → new.buffer.bytes ≡ old.buffer.bytes ++ chunk
+    → new.parser ≡ old.parser → new.line_feeds ≡ old.line_feeds
+    → HasHeard l limit start now new (bytes ++ chunk)
+still_heard {l = l} {limit = limit} {start = start} {now = now} old new bytes chunk h is parser lines = record {
+  before = h.before;
+  all = ap (λ xs. xs ++ chunk) h.all ∙ append_assoc h.before old.buffer.bytes chunk
+      ∙ ap (λ xs. h.before ++ xs) (sym is);
+  ends = (h.ends.0, lines ∙ h.ends.1);
+  heard = subst (λ m. l.has_heard limit start now m h.before) (sym parser) h.heard;
+}
+
+-- and the words of the buffer's front, once they are taken
+pub chunk_heard : {L : Type 0} {l : listeners.Ghosts L} {limit : ℕ} {start now later : L} (old new : FileReader)
+    (len : ℕ) (bytes front : List ℕ) (h : HasHeard l limit start now old bytes)
+    → front ≡ take len old.buffer.bytes → has_complete_words front ≡ true
+    → new.buffer.bytes ≡ drop len old.buffer.bytes → new.line_feeds ≡ old.line_feeds + line_feeds_in front
+    → l.has_heard limit start later new.parser (h.before ++ front) → HasHeard l limit start later new bytes
+chunk_heard old new len bytes front h is complete left lines heard = record {
+  before = h.before ++ front;
+  all = h.all ∙ ap (λ xs. h.before ++ xs) (sym (take-append-drop len old.buffer.bytes)
+      ∙ ap₂ (λ x y. x ++ y) (sym is) (sym left)) ∙ sym (append_assoc h.before front new.buffer.bytes);
+  ends = (
+    both_complete h.before front h.ends.0 complete,
+    lines ∙ ap (λ n. n + line_feeds_in front) h.ends.1 ∙ sym (line_feeds_of_both h.before front),
+  );
+  heard = heard;
+}
+
+-- what holds of the bytes that it has heard, whatever comes after them, holds of the file
+pub of_heard : {L : Type 0} {l : listeners.Ghosts L} {limit : ℕ} {start now : L} {p : FileReader} {bytes : List ℕ}
+    (coming left : Option (List ℕ)) (P : List ℕ → Type 0) → Consumes coming left bytes
+    → (h : HasHeard l limit start now p bytes) → ((after : List ℕ) → P (h.before ++ after)) → IfSome coming P
+of_heard None left P consumes h each = tt
+of_heard (Some file) None P consumes h each = absurd consumes
+of_heard {p = p} (Some file) (Some left) P consumes h each =
+    subst P (sym (consumes ∙ ap (λ xs. xs ++ left) h.all ∙ append_assoc h.before p.buffer.bytes left))
+    (each (p.buffer.bytes ++ left))
+
 -- ---- nothing has been read, or all has been
 
 pub nothing_taken : (limit most : ℕ) (asked : Asked) (m : Parser) (word : List ℕ) → word ≡ [] → most < 2 ^ 62
@@ -148,6 +199,30 @@ nothing_taken limit most asked m word none small reads = record {
 
 pub consumes_none : (coming : Option (List ℕ)) → Consumes coming coming []
 consumes_none coming = grind arith
+
+no_bytes : (xs : List ℕ) → length xs ≤ 0 → [] ≡ xs
+no_bytes [] few = refl
+no_bytes (x ∷ xs) few = absurd (omega (arith, few))
+
+pub nothing_heard : {L : Type 0} {l : listeners.Ghosts L} {limit most : ℕ} {start : L} (coming : Option (List ℕ))
+    (p : FileReader) → HasReadBytes limit most (l.asked start) p [] → l.has_heard limit start start p.parser []
+    → FileReaderMatches l limit most start coming coming start p
+nothing_heard coming p taken heard = (
+  [],
+  consumes_none coming,
+  (
+    taken,
+    record {
+      before = [];
+      all = no_bytes p.buffer.bytes taken.short;
+      ends = (refl, none taken.lines);
+      heard = heard;
+    },
+  ),
+)
+  where
+    none : {n : ℕ} → 1 ≡ n + 1 → n ≡ 0
+    none is = omega (arith, is)
 
 -- the words so far, and the last one
 all_words : (limit most : ℕ) (asked : Asked) (p : FileReader) (text bytes : List ℕ)

@@ -1,7 +1,9 @@
 -- The walk over a text, byte for byte: the words that it finds, and its state.
-use Rattle.std.specs.Prelude.{ℕ, ◌+◌, ◌==◌, Bool, true, false, if◌then◌else◌, List, [], ◌∷◌, ◌++◌}
+use Rattle.std.specs.Prelude.{◌≡◌, ℕ, ◌+◌, ◌==◌, Bool, true, false, if◌then◌else◌, List, [], ◌∷◌}
+use Rattle.std.specs.Prelude.{◌++◌}
 use Rattle.vcd_core.specs.Word.{is_white_space}
 use Rattle.vcd_text.specs.Words.{WordOnLine, word_on}
+use Rattle.vcd_text.specs.LineFeeds.{line_feeds_in}
 
 -- the line after a byte: a line feed begins another
 abbrev pub line_after : ℕ → ℕ → ℕ
@@ -37,3 +39,8 @@ abbrev pub has_complete_words : List ℕ → Bool
 has_complete_words [] = true
 has_complete_words (b ∷ []) = is_white_space b
 has_complete_words (b ∷ c ∷ bs) = has_complete_words (c ∷ bs)
+
+-- these bytes can come before words: they end in white space, and have so many line feeds
+abbrev pub ComesBefore : List ℕ → (line_feeds : ℕ) → Type 0
+ComesBefore bytes line_feeds =
+    (has_complete_words bytes ≡ true) × (line_feeds ≡ line_feeds_in bytes)

@@ -1,30 +1,28 @@
 //! A file in chunks: the complete words of each chunk are taken before the next read.
 
-ghost use Rattle.std.specs.Prelude.{◌≡◌, ◌∷◌, ◌+◌, ◌<◌, ◌≤◌, ◌^◌, ℕ, true, false, not, List, []};
+ghost use Rattle.std.specs.Prelude.{◌≡◌, ◌∷◌, ◌<◌, ◌≤◌, ◌^◌, ℕ, true, false, not, List, []};
 ghost use Rattle.std.specs.Prelude.{length, map, take, drop, Option, IfOk, IfErr, IfSome, OnOk};
 ghost use Rattle.std.specs.List.{list_all};
 ghost use Rattle.std.specs.Io.KnownBytes.{IsAtEnd};
 ghost use Rattle.vcd_core.specs.Word as spec;
 ghost use Rattle.vcd_text.specs.Words.{word_on, WordOnLine as WordInFile};
-ghost use Rattle.vcd_text.specs.LentWords.{words_left};
 ghost use Rattle.vcd_text.specs.Grammar.{ParseState, kept_variables};
-ghost use Rattle.vcd_text.specs.Parts.{PartMeans};
 ghost use Rattle.vcd_text.specs.Refusals.{IsRefusal};
 ghost use Rattle.vcd_text.specs.inside.reading.Parser.{StepsBy};
 ghost use Rattle.vcd_text.specs.inside.Words.{has_complete_words};
-ghost use Rattle.vcd_text.specs.LineFeeds.{line_feeds_in};
 ghost use Rattle.vcd_text.specs.inside.reading.Part.{Asked, asked_by, IsAskedPart, undriven};
 ghost use Rattle.vcd_text.specs.inside.reading.Variables.{VariablesMatch};
 ghost use Rattle.vcd_text.specs.inside.reading.Parser.{HasTakenWords, BeginsPart, is_complete};
-ghost use Rattle.vcd_text.specs.inside.reading.Parser.{CanTake, TakesWord, AllWordsResult};
-ghost use Rattle.vcd_text.specs.inside.reading.FileReader.{HasReadBytes, FileReaderMatches};
-ghost use Rattle.vcd_text.specs.inside.reading.FileReader.{HasUntakenChunk};
-ghost use Rattle.vcd_text.specs.inside.reading.FileReader.{TakesChunk, RefusesFile};
+ghost use Rattle.vcd_text.specs.inside.reading.Parser.{CanTake, TakesWord};
+ghost use Rattle.vcd_text.specs.inside.reading.FileReader.{HasReadBytes, HasHeard, HasHeardBytes};
+ghost use Rattle.vcd_text.specs.inside.reading.FileReader.{FileReaderMatches, HasUntakenChunk};
+ghost use Rattle.vcd_text.specs.inside.reading.FileReader.{CanBegin};
+ghost use Rattle.vcd_text.specs.inside.reading.FileReader.{TakesChunk, RefusesFile, HasHeardFile};
 ghost use Rattle.vcd_text.specs.declared.reading.parser.OpenItem.TheVariants as items;
 
 use crate::fault::{Fault, ReadError};
-use crate::reading::Loaded;
 use crate::reading::choice::{Choice, chosen_part};
+use crate::reading::listener::Listener;
 use crate::reading::parser::Parser;
 use crate::reading::read_buffer::ReadBuffer;
 use crate::words::Words;
@@ -58,35 +56,72 @@ impl FileReader {
         }
     }
 
-    /// Reads a chunk and takes the words that are then complete. Returns whether the source gave a
+    /// Reads the chunks of a file with at most `limit` kept variables, and at most `most` bytes: up
+    /// to its end, or up to the first chunk after which the listener is done.
+    pub fn read_chunks<R: Source, L: Listener>(
+        alloc: Global,
+        source: &mut R,
+        listener: &mut L,
+        limit: u32,
+        most: usize,
+    ) -> Result<FileReader, ReadError>
+        requires small { most < 2 ^ 62 }
+        requires ready { R.has_failed source.old ≡ false }
+        requires begins { CanBegin L.Listener limit listener.old }
+        ensures heard { IfOk result (FileReaderMatches L.Listener limit most listener.old
+            (R.coming source.old) (R.coming source.new) listener.new) }
+        ensures goes_on { L.goes_on listener.old listener.old →
+            L.goes_on listener.old listener.new }
+        ensures not_failed { OnOk result (R.has_failed source.new ≡ false) }
+        ensures ended { OnOk result (L.is_done listener.new ≡ false →
+            IsAtEnd (R.coming source.new)) }
+        ensures refused { IfErr result (λ e. IfSome (R.coming source.old) (λ file.
+            IsRefusal limit most file (R.has_failed source.new) (R.coming source.new) e)) }
+        ensures failed { IfErr result (λ e. e.fault ≡ Fault.ReadFault →
+            R.has_failed source.new ≡ true) }
+        ensures unfailed { IfErr result (λ e. (e.fault ≡ Fault.ReadFault → ⊥) →
+            R.has_failed source.new ≡ false) }
+    {
+        let mut progress = FileReader::new(alloc, limit, most);
+        while progress.take_chunk(alloc, source, listener)? {
+            if listener.is_done() {
+                return Ok(progress);
+            }
+        }
+        Ok(progress)
+    }
+
+    /// Reads a chunk, and takes the words that are then complete. Returns whether the source gave a
     /// byte.
-    pub fn take_chunk<R: Source, C: Choice>(
+    pub fn take_chunk<R: Source, L: Listener>(
         &mut self,
         alloc: Global,
         source: &mut R,
-        choice: &C,
+        listener: &mut L,
     ) -> Result<bool, ReadError>
         requires ready { R.has_failed source.old ≡ false }
-        requires read_bytes { (limit : ℕ) × (most : ℕ) × (bytes : List ℕ)
-            × HasReadBytes limit most (asked_by C.takes C.ticks choice.now) self.old bytes }
-        ensures taken { OnOk result ((limit most : ℕ) (coming : Option (List ℕ)) →
-            FileReaderMatches limit most (asked_by C.takes C.ticks choice.now) coming
-            (R.coming source.old) self.old →
-            FileReaderMatches limit most (asked_by C.takes C.ticks choice.now) coming
-            (R.coming source.new) self.new) }
+        requires matches { (limit : ℕ) × (most : ℕ) × (start : L) × (coming : Option (List ℕ))
+            × FileReaderMatches L.Listener limit most start coming (R.coming source.old)
+            listener.old self.old }
+        ensures taken { OnOk result ((limit most : ℕ) (start : L) (coming : Option (List ℕ)) →
+            FileReaderMatches L.Listener limit most start coming (R.coming source.old)
+            listener.old self.old →
+            FileReaderMatches L.Listener limit most start coming (R.coming source.new)
+            listener.new self.new) }
+        ensures goes_on { (start : L) → L.goes_on start listener.old →
+            L.goes_on start listener.new }
         ensures not_failed { OnOk result (R.has_failed source.new ≡ false) }
         ensures ended { IfOk result (λ more. more ≡ false → IsAtEnd (R.coming source.new)) }
         ensures fewer { IfOk result (λ more. more ≡ true
             → self.new.bytes_left < self.old.bytes_left) }
-        ensures refused { IfErr result (λ e. (limit most : ℕ) (coming : Option (List ℕ)) →
-            FileReaderMatches limit most (asked_by C.takes C.ticks choice.now) coming
-            (R.coming source.old) self.old →
+        ensures refused { IfErr result (λ e. (limit most : ℕ) (start : L)
+            (coming : Option (List ℕ)) →
+            FileReaderMatches L.Listener limit most start coming (R.coming source.old)
+            listener.old self.old →
             IfSome coming (λ file. IsRefusal limit most file (R.has_failed source.new)
             (R.coming source.new) e)) }
         ensures failed { IfErr result (λ e. e.fault ≡ Fault.ReadFault →
             R.has_failed source.new ≡ true) }
-        ensures too_large { IfErr result (λ e. e.fault ≡ Fault.TooLarge →
-            R.has_failed source.new ≡ false) }
         ensures unfailed { IfErr result (λ e. (e.fault ≡ Fault.ReadFault → ⊥) →
             R.has_failed source.new ≡ false) }
     {
@@ -99,24 +134,26 @@ impl FileReader {
             return Err(ReadError::at(self.line_feeds + 1, Fault::TooLarge));
         }
         self.bytes_left -= count;
-        self.take_words(alloc, choice, unfinished_len)?;
+        self.take_words(alloc, listener, unfinished_len)?;
         Ok(count > 0)
     }
 
     /// Takes the complete words. The first `unfinished_len` bytes of the buffer are no white space.
-    fn take_words<C: Choice>(
+    fn take_words<L: Listener>(
         &mut self,
         alloc: Global,
-        choice: &C,
+        listener: &mut L,
         unfinished_len: usize,
     ) -> Result<(), ReadError>
-        requires { (limit : ℕ) × (most : ℕ) × (bytes : List ℕ)
-            × HasUntakenChunk limit most (asked_by C.takes C.ticks choice.now) self.old
-            unfinished_len bytes }
-        ensures taken { (limit most : ℕ) (bytes : List ℕ) →
-            HasUntakenChunk limit most (asked_by C.takes C.ticks choice.now) self.old
-            unfinished_len bytes →
-            TakesChunk limit most (asked_by C.takes C.ticks choice.now) bytes result self.new }
+        requires { (limit : ℕ) × (most : ℕ) × (start : L) × (bytes : List ℕ)
+            × HasUntakenChunk limit most (L.asked start) self.old unfinished_len bytes
+            × HasHeard L.Listener limit start listener.old self.old bytes }
+        ensures taken { (limit most : ℕ) (start : L) (bytes : List ℕ) →
+            HasUntakenChunk limit most (L.asked start) self.old unfinished_len bytes →
+            HasHeard L.Listener limit start listener.old self.old bytes →
+            TakesChunk L.Listener limit most start bytes result listener.new self.new }
+        ensures goes_on { (start : L) → L.goes_on start listener.old →
+            L.goes_on start listener.new }
         ensures bytes_left { self.new.bytes_left ≡ self.old.bytes_left }
     {
         let len = complete_words_len(self.buffer.as_slice(), unfinished_len);
@@ -124,22 +161,24 @@ impl FileReader {
             rest: &self.buffer.as_slice()[..len],
             line_feeds: self.line_feeds,
         };
-        self.line_feeds = read_words(&mut self.parser, alloc, choice, complete)?;
+        self.line_feeds = listener.take_words(alloc, &mut self.parser, complete)?;
         self.buffer.remove_prefix(len);
         Ok(())
     }
 
-    /// Takes the word that the file's end completes, if there is one. The result is the part of
-    /// what the file means, or its fault.
-    pub fn finish<C: Choice>(self, alloc: Global, choice: &C) -> Result<Loaded, ReadError>
-        requires { (limit : ℕ) × (most : ℕ) × (bytes : List ℕ)
-            × HasReadBytes limit most (asked_by C.takes C.ticks choice.now) self bytes }
-        ensures means { IfOk result (λ loaded. (limit most : ℕ) (bytes : List ℕ) →
-            HasReadBytes limit most (asked_by C.takes C.ticks choice.now) self bytes →
-            PartMeans limit (C.takes choice.now) (C.ticks choice.now) bytes loaded) }
-        ensures fault { IfErr result (λ e. (limit most : ℕ) (bytes : List ℕ) →
-            HasReadBytes limit most (asked_by C.takes C.ticks choice.now) self bytes →
+    /// Takes the word that the file's end completes, if there is one. The result is the parser
+    /// after all words, or the file's fault.
+    pub fn finish<L: Listener>(self, alloc: Global, listener: &mut L) -> Result<Parser, ReadError>
+        requires { (limit : ℕ) × (most : ℕ) × (start : L) × (bytes : List ℕ)
+            × HasHeardBytes L.Listener limit most start listener.old self bytes }
+        ensures heard { IfOk result (λ parser. (limit most : ℕ) (start : L) (bytes : List ℕ) →
+            HasHeardBytes L.Listener limit most start listener.old self bytes →
+            HasHeardFile L.Listener limit start listener.new parser bytes) }
+        ensures fault { IfErr result (λ e. (limit most : ℕ) (start : L) (bytes : List ℕ) →
+            HasHeardBytes L.Listener limit most start listener.old self bytes →
             RefusesFile limit bytes e) }
+        ensures goes_on { (start : L) → L.goes_on start listener.old →
+            L.goes_on start listener.new }
     {
         let FileReader {
             mut parser,
@@ -151,14 +190,14 @@ impl FileReader {
             rest: buffer.as_slice(),
             line_feeds,
         };
-        read_words(&mut parser, alloc, choice, word)?;
+        listener.take_words(alloc, &mut parser, word)?;
         check_complete(&parser, line_feeds + 1)?;
-        Ok(parser.into_loaded(alloc)?)
+        Ok(parser)
     }
 }
 
 /// The error is `Truncated`, at the line of the file's end, if its words are not a whole file.
-pub fn check_complete(parser: &Parser, line: u64) -> Result<(), ReadError>
+fn check_complete(parser: &Parser, line: u64) -> Result<(), ReadError>
     ensures complete { OnOk result (is_complete parser.now ≡ true) }
     ensures truncated { IfErr result (λ e. (is_complete parser.now ≡ false)
         × (e ≡ record { line = line; fault = Fault.Truncated })) }
@@ -172,7 +211,7 @@ pub fn check_complete(parser: &Parser, line: u64) -> Result<(), ReadError>
 /// The number of bytes up to and including the last white space. The first `unfinished_len` bytes
 /// have none.
 #[tactic(auto, using(crate::proofs::shared::Chunks::complete_at))]
-pub fn complete_words_len(bytes: &[u8], unfinished_len: usize) -> usize
+fn complete_words_len(bytes: &[u8], unfinished_len: usize) -> usize
     requires within { unfinished_len ≤ length bytes.now }
     requires no_space { list_all (λ b. not (spec.is_white_space b)) (take unfinished_len bytes.now)
         ≡ true }
@@ -188,30 +227,6 @@ pub fn complete_words_len(bytes: &[u8], unfinished_len: usize) -> usize
         len -= 1;
     }
     0
-}
-
-/// Takes words one after another, up to the first that shows a fault. Returns the number of line
-/// feeds before the end of their text.
-fn read_words<C: Choice>(
-    parser: &mut Parser,
-    alloc: Global,
-    choice: &C,
-    words: Words,
-) -> Result<u64, ReadError>
-    requires { (limit : ℕ)
-        × CanTake limit (asked_by C.takes C.ticks choice.now) parser.old (words_left words) }
-    ensures words { (limit : ℕ) (words_so_far : List WordInFile) →
-        HasTakenWords limit (asked_by C.takes C.ticks choice.now) parser.old words_so_far →
-        AllWordsResult limit (asked_by C.takes C.ticks choice.now) words_so_far
-        (words_left words.entry) result parser.new }
-    ensures line_feeds { IfOk result (λ line_feeds.
-        line_feeds ≡ words.entry.line_feeds + line_feeds_in words.entry.rest.now) }
-{
-    let mut left = words;
-    while let Some(word) = left.next_word() {
-        take_word(parser, alloc, choice, word.text, word.line)?;
-    }
-    Ok(left.line_feeds)
 }
 
 /// Takes a word, which is on this line. If it ends the declarations, the part is chosen.

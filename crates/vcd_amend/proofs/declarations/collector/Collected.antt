@@ -1,7 +1,7 @@
 -- What one more item of a file adds to what was collected, and the first pieces, which end the declarations.
 use Rattle.std.proofs.Common.{◌≡◌, ◌∙◌, ℕ, List, [], ◌∷◌, ◌++◌, map, refl, sym, ap, subst, ◌⊎◌, inl, inr, Bool, true}
 use Rattle.std.proofs.Common.{false, not, ◌&&◌}
-use Rattle.std.specs.Prelude.{IsTrue, option_to_list, Some, Option, None, IfSome}
+use Rattle.std.specs.Prelude.{IsTrue, option_to_list, Some}
 use Rattle.std.proofs.lemmas.List.{map-append}
 use Rattle.std.proofs.lemmas.Bool.{false≢true}
 use Rattle.vcd_core.specs.Decimal.{is_number, number_of}
@@ -15,9 +15,6 @@ use Rattle.vcd_copy.specs.Pieces.{Piece, state_of_pieces}
 use Rattle.vcd_copy.specs.Copied.{IsTakenNext, piece_items, IsTold}
 use Rattle.vcd_copy.specs.declared.copying.amender.AmendableItem.{AmendableItem}
 use Rattle.vcd_copy.specs.declared.copying.amender.AmendableItem.TheVariants as shown
-use Rattle.vcd_copy.specs.CopyEnds.{ReadFails}
-use Rattle.vcd_text.specs.MemoryErrors.{memory_error}
-use Rattle.vcd_text.specs.Refusals.{IsRefusal, no_memory}
 use Rattle.vcd_copy.specs.VariableWords.{IsVariable}
 use Rattle.vcd_copy.proofs.shared.StatesOfPieces.{last_allowed, one_more, at_any_limit}
 use Rattle.vcd_text.proofs.shared.DeclaringWords.{declares}
@@ -159,16 +156,3 @@ all_declared limit m file state t a =
         → IsTrue (state_of_pieces limit t.pieces).in_body
     ended true is h = ap (λ (c : ParseState). c.in_body) (at_any_limit limit t.pieces) ∙ sym h.done ∙ is
     ended false is h = (t.all is).1
-
--- memory ran out, while the reader has not failed
-pub memory_fails : (limit most : ℕ) (coming left : Option (List ℕ)) (failed : Bool) → failed ≡ false
-    → ReadFails limit most coming left failed memory_error
-memory_fails limit most coming left failed ready = record {
-  refused = refused coming;
-  failed_reader = λ is. absurd (cc is);
-  other = λ isnt. ready;
-}
-  where
-    refused : (coming : Option (List ℕ)) → IfSome coming (λ file. IsRefusal limit most file failed left memory_error)
-    refused None = tt
-    refused (Some file) = no_memory refl

@@ -1,6 +1,6 @@
 use Rattle.std.proofs.Common.{subst}
 use Rattle.vcd_copy.specs.CopyEnds.{CopyFails}
-use Rattle.vcd_amend.proofs.declarations.collector.Collected.{memory_fails}
+use Rattle.vcd_copy.proofs.shared.CopyFaults.{memory_fails}
 use Rattle.vcd_amend.proofs.declarations.read_error.Goals as goal
 
 pub returns-in-Read : goal.returns-in-Read

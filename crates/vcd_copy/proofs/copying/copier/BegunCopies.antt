@@ -12,10 +12,10 @@ use Rattle.vcd_text.specs.Grammar.{ParseState, initial_state, state_after, word_
 use Rattle.vcd_text.specs.inside.Words.{has_complete_words}
 use Rattle.vcd_text.specs.declared.reading.parser.Parser.{Parser}
 use Rattle.vcd_text.specs.declared.writing.output.Output.{Output}
+use Rattle.vcd_text.specs.EmittedText.{Emits}
 use Rattle.vcd_copy.specs.Pieces.{Piece, IsCut, piece_bytes, state_of_pieces}
 use Rattle.vcd_copy.specs.Copied.{CopyRules, IsCopy, copied_pieces, piece_items}
-use Rattle.vcd_copy.specs.inside.Copying.{HasCopied, HasCopiedFile, TookCopy, TookBeginning, stands_open}
-use Rattle.vcd_copy.specs.declared.copying.copier.Copier.{Copier}
+use Rattle.vcd_copy.specs.inside.Copying.{HasCopied, TookCopy, TookBeginning, stands_open}
 use Rattle.vcd_copy.proofs.shared.SpelledItems.{bytes_spell, first_items}
 use Rattle.vcd_copy.proofs.shared.CopiedPieces.{copied_more}
 use Rattle.vcd_copy.proofs.pieces.Bytes.{texts, texts_are, is_end, space_first, both_parts}
@@ -224,17 +224,14 @@ module _ {limit : ℕ} {rules : CopyRules} {seen : List Piece → Type 0} {writt
 
 -- the output took the beginning of the copy of the file that goes on in any way
 pub begun_file : {W : Type 0} {sink : sinks.Ghosts W} {limit : ℕ} {rules : CopyRules} {seen : List Piece → Type 0}
-    {start now : Output W} {copier : Copier} {bytes : List ℕ}
-    → HasCopiedFile sink limit rules seen start now copier bytes → (left : List ℕ)
-    → TookBeginning sink limit rules start now (bytes ++ left)
-begun_file {sink = sink} {limit = limit} {rules = rules} {start = start} {now = now} {copier = copier} h left =
-    let after : List ℕ = copier.progress.buffer.bytes ++ left in
-    subst (TookBeginning sink limit rules start now)
-    (sym (ap (λ l. l ++ left) h.is ∙ append_assoc h.taken copier.progress.buffer.bytes left)) (record {
-      text = so_far h.copied h.complete after;
-      emits = h.copied.writes;
-      begins = λ s accepted. begun_copy h.copied h.complete after s accepted;
-    })
+    {start now : Output W} {m : Parser} {held bytes : List ℕ} {len : ℕ}
+    → HasCopied limit rules seen (Emits sink start now) m held len bytes → has_complete_words bytes ≡ true
+    → (after : List ℕ) → TookBeginning sink limit rules start now (bytes ++ after)
+begun_file h complete after = record {
+  text = so_far h complete after;
+  emits = h.writes;
+  begins = λ s accepted. begun_copy h complete after s accepted;
+}
 
 -- and so did one that took all of it
 pub whole_begins : {W : Type 0} {sink : sinks.Ghosts W} {limit : ℕ} {rules : CopyRules} {start now : Output W}

@@ -1,28 +1,23 @@
 -- What an amender was told of a file: the pieces with which it begins.
 use Rattle.std.proofs.Common.{◌≡◌, ◌∙◌, inl, inr, ℕ, ◌<◌, Bool, true, false, List, [], ◌∷◌, ◌++◌, length, drop}
 use Rattle.std.proofs.Common.{refl, sym, ap, ap₂, arith, append_assoc}
-use Rattle.std.specs.Prelude.{Option, Some, None, IfSome}
 use Rattle.std.specs.List.{All}
-use Rattle.std.specs.Io.KnownBytes.{Consumes}
 use Rattle.std.proofs.lemmas.List.{append-nil}
 use Rattle.std.proofs.lemmas.List.Elements.{All-nil, All-head, All-tail}
 use Rattle.std.proofs.lemmas.Bool.{false≢true}
-use Rattle.vcd_core.specs.declared.device.Sink as sinks
 use Rattle.vcd_text.specs.Words.{WordOnLine}
 use Rattle.vcd_text.specs.Items.{spellings}
 use Rattle.vcd_text.specs.Grammar.{word_texts}
 use Rattle.vcd_copy.specs.Pieces.{Piece, IsCut}
 use Rattle.vcd_copy.specs.Copied.{CopyRules, IsCopy, IsTold, piece_items}
 use Rattle.vcd_text.specs.inside.Words.{has_complete_words}
-use Rattle.vcd_copy.specs.inside.Copying.{HasCopied, HasCopiedFile}
+use Rattle.vcd_copy.specs.inside.Copying.{HasCopied}
 use Rattle.vcd_copy.specs.Pieces.{piece_bytes}
-use Rattle.vcd_copy.specs.declared.copying.copier.Copier.{Copier}
 use Rattle.vcd_text.specs.declared.reading.parser.Parser.{Parser}
-use Rattle.vcd_text.specs.declared.writing.output.Output.{Output}
 use Rattle.vcd_copy.proofs.pieces.Bytes.{texts, texts_are, is_end, space_first, both_parts}
 use Rattle.vcd_copy.proofs.pieces.Cuts.{SpellsItem, SpaceIsWhite, HasSomeSpace, white_ends}
 use Rattle.vcd_copy.proofs.copying.pieces.OneWordMore.{no_texts, space_ends}
-use Rattle.vcd_copy.proofs.copying.copier.CopiedChunks.{whole_copy}
+use Rattle.vcd_copy.proofs.copying.copier.WholeCopies.{whole_copy}
 use Rattle.vcd_text.specs.inside.reading.Parser.{is_complete}
 
 -- ---- the words of pieces
@@ -78,16 +73,14 @@ next_ends h after complete some = go h.begun refl
         ∙ space_ends h.space ((h.body ++ h.gap) ++ after) (h.opened.apart (rw is (omega arith)) some) h.opened.white
 
 -- an amender that is done was told of the pieces so far
-pub told_so_far : {W : Type 0} {sink : sinks.Ghosts W} {limit : ℕ} {rules : CopyRules} {seen : List Piece → Type 0}
-    {start now : Output W} {copier : Copier} {bytes : List ℕ} (told : List Piece → Type 0) (done : Bool)
-    → HasCopiedFile sink limit rules seen start now copier bytes → ((ps : List Piece) → seen ps → told ps)
-    → done ≡ true → (left : List ℕ) → IsTold limit done told (bytes ++ left)
-told_so_far {limit = limit} {copier = copier} {bytes = bytes} told done h tells is left =
-    let c = h.copied in
+pub told_so_far : {limit : ℕ} {rules : CopyRules} {seen : List Piece → Type 0} {written : List ℕ → Type 0} {m : Parser}
+    {held bytes : List ℕ} {len : ℕ} (told : List Piece → Type 0) (done : Bool)
+    → HasCopied limit rules seen written m held len bytes → has_complete_words bytes ≡ true
+    → ((ps : List Piece) → seen ps → told ps) → done ≡ true → (after : List ℕ)
+    → IsTold limit done told (bytes ++ after)
+told_so_far {bytes = bytes} told done c complete tells is after =
     let own : List ℕ = c.space ++ (c.body ++ c.gap) in
-    let after : List ℕ = copier.progress.buffer.bytes ++ left in
-    let whole : bytes ++ left ≡ piece_bytes c.pieces ++ (own ++ after) = ap (λ l. l ++ left) h.is
-    ∙ append_assoc h.taken copier.progress.buffer.bytes left ∙ ap (λ l. l ++ after) c.whole
+    let whole : bytes ++ after ≡ piece_bytes c.pieces ++ (own ++ after) = ap (λ l. l ++ after) c.whole
     ∙ append_assoc (piece_bytes c.pieces) own after in
     record {
       pieces = c.pieces;
@@ -95,18 +88,12 @@ told_so_far {limit = limit} {copier = copier} {bytes = bytes} told done h tells 
       later = texts (own ++ after);
       cut = c.cut;
       whole = whole;
-      words = texts_are (bytes ++ left) ∙ ap texts whole
-          ∙ begins_with c.pieces (own ++ after) c.cut (λ some. next_ends c after h.complete some);
+      words = texts_are (bytes ++ after) ∙ ap texts whole
+          ∙ begins_with c.pieces (own ++ after) c.cut (λ some. next_ends c after complete some);
       allowed = c.allowed;
       is_told = tells c.pieces c.seen;
       all = λ isnt. absurd (false≢true (sym isnt ∙ is));
     }
-
-pub come_so_far : (P : List ℕ → Type 0) (coming now : Option (List ℕ)) (bytes : List ℕ) → Consumes coming now bytes
-    → ((left : List ℕ) → P (bytes ++ left)) → IfSome coming P
-come_so_far P None now bytes consumes each = tt
-come_so_far P (Some file) None bytes consumes each = absurd consumes
-come_so_far P (Some file) (Some left) bytes consumes each = rw consumes (each left)
 
 -- ---- the whole file
 

@@ -4,7 +4,7 @@ use Rattle.vcd_text.specs.inside.reading.Part.{asked_by}
 use Rattle.vcd_text.specs.inside.reading.Parser.{HasTakenWords}
 use Rattle.vcd_text.specs.LentWords.{words_left}
 use Rattle.vcd_text.specs.LineFeeds.{line_feeds_in}
-use Rattle.vcd_text.proofs.reading.file_reader.read_words.Given as goal
+use Rattle.vcd_text.proofs.reading.part_listener.read_words.Given as goal
 
 abbrev pub invariant-loop-word : goal.invariant-loop-word
 invariant-loop-word g l =

@@ -4,7 +4,7 @@ use Rattle.std.proofs.Common.{append-nil, length-append, refl}
 use Rattle.vcd_text.specs.declared.fault.ReadError.{ReadError}
 use Rattle.vcd_text.specs.Words.{WordOnLine}
 use Rattle.vcd_text.specs.LentWords.{word_contents, words_left}
-use Rattle.vcd_text.proofs.reading.file_reader.read_words.Goals as goal
+use Rattle.vcd_text.proofs.reading.part_listener.read_words.Goals as goal
 use Rattle.vcd_text.proofs.shared.FailedResults.{err_is}
 
 -- the words so far, this word, and the words left
