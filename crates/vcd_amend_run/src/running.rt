@@ -174,7 +174,7 @@ impl From<CopyError> for AmendRunError {
 
 /// Runs the script on the capture, and writes the file as it is after the script, if there is an
 /// output: every byte stands that no edit in force touches. With the head of a mark the output has
-/// the mark after its declarations, with the lines whose edits are in force.
+/// the mark before `$enddefinitions`, with the lines whose edits are in force.
 ///
 /// The file is read four times: its declarations, all of it without a change, the changes that the
 /// script asks for, and then for the copy. Only these changes are held, and while a signal is

@@ -5,7 +5,8 @@ ghost use Rattle.vcd_core.specs.Value.{same_letters};
 ghost use Rattle.vcd_core.specs.Wave.{value_at};
 ghost use Rattle.vcd_compare.specs.Differences.{compared};
 ghost use Rattle.vcd_compare.specs.inside.Merging.{WaveOfLetters, RiseFromTick, GivesValues};
-ghost use Rattle.vcd_compare.specs.inside.Merging.{HasCome, next_tick, earlier_tick};
+ghost use Rattle.vcd_compare.specs.inside.Merging.{HasCome};
+ghost use Rattle.vcd_core.specs.inside.EdgeWalk.{next_tick, earlier_tick};
 
 use crate::differences::Differences;
 use crate::wave_comparison::WaveComparison;

@@ -9,8 +9,8 @@ use Rattle.vcd_core.specs.declared.wave.Change.{Change}
 use Rattle.vcd_core.specs.Value.{all_x}
 use Rattle.vcd_core.specs.Wave.{value_from, value_at}
 use Rattle.vcd_core.proofs.shared.Waves.{value_past, value_skip}
-use Rattle.vcd_compare.specs.inside.Merging.{WaveOfLetters, RiseFromTick, GivesValues, HasCome, next_tick}
-use Rattle.vcd_compare.specs.inside.Merging.{earlier_tick}
+use Rattle.vcd_core.specs.inside.EdgeWalk.{next_tick, earlier_tick}
+use Rattle.vcd_compare.specs.inside.Merging.{WaveOfLetters, RiseFromTick, GivesValues, HasCome}
 
 -- the value before the first change
 value_later : (v : List Bit) (cs : List Change) (s floor : ℕ) → RiseFromTick floor cs → s < floor

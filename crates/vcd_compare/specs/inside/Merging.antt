@@ -1,5 +1,5 @@
 -- A wave at a tick, by its value there and its later changes.
-use Rattle.std.specs.Prelude.{◌≡◌, ℕ, suc, ◌≤◌, min, Option, Some, None, List, [], ◌∷◌}
+use Rattle.std.specs.Prelude.{◌≡◌, ℕ, suc, ◌≤◌, List, [], ◌∷◌}
 use Rattle.vcd_core.specs.declared.bit.Bit.{Bit}
 use Rattle.vcd_core.specs.declared.wave.Change.{Change}
 use Rattle.vcd_core.specs.Wave.{value_from}
@@ -23,14 +23,3 @@ pub record HasCome (wave : WaveOfLetters) (t : ℕ) (value : List Bit) (rest : L
   where
     pub gives : GivesValues wave t value rest
     pub later : RiseFromTick (suc t) rest
-
--- the tick of the next change
-abbrev pub next_tick : List Change → Option ℕ
-next_tick [] = None
-next_tick (c ∷ cs) = Some c.tick
-
--- the lesser of two ticks that may be absent
-abbrev pub earlier_tick : Option ℕ → Option ℕ → Option ℕ
-earlier_tick None u = u
-earlier_tick (Some t) None = Some t
-earlier_tick (Some t) (Some u) = Some (min t u)

@@ -1,6 +1,6 @@
 use Rattle.std.proofs.Common.{◌≡◌, ℕ, ◌<◌, ◌≤◌, Some, suc, sym, ◌∙◌, arith}
 use Rattle.vcd_core.specs.Wave.{value_at}
-use Rattle.vcd_compare.specs.inside.Merging.{next_tick, earlier_tick}
+use Rattle.vcd_core.specs.inside.EdgeWalk.{next_tick, earlier_tick}
 use Rattle.vcd_compare.proofs.merging.Cursors.{gives_whole, value_now, value_stays, after_at, before_next, none_left}
 use Rattle.vcd_compare.proofs.merging.Cursors.{earlier_of, IsBeforeNext}
 use Rattle.vcd_compare.proofs.merging.compare_changes.Goals as goal
