@@ -1,10 +1,11 @@
 //! What a mark says of the capture: its name, its size and its SHA-256.
 
-ghost use Rattle.std.specs.Prelude.{◌≡◌, ◌⊎◌, false, ℕ, List, string_bytes};
-ghost use Rattle.std.specs.Prelude.{IfOk, IfErr, IfSome};
+ghost use Rattle.std.specs.Prelude.{◌≡◌, ◌⊎◌, ◌++◌, false, ℕ, List, map, string_bytes};
+ghost use Rattle.std.specs.Prelude.{IfOk, IfErr, IfSome, OnOk};
 ghost use Rattle.hex.specs.Hex.{encode_lower};
 ghost use Rattle.sha2.specs.Sha256.{sha256};
 ghost use Rattle.vcd_amend_program.specs.ProgramEnds.{not_read, no_memory};
+ghost use Rattle.vcd_amend_program.specs.CommandLine.{options_in};
 ghost use Rattle.vcd_amend_program.specs.Marks as spec;
 
 use crate::amend_error::{AmendError, NO_MEMORY, NOT_READ};
@@ -89,17 +90,14 @@ pub fn head_of<'a>(path: &'a str, size: u64, digest: &'a str, part: &'a [Word]) 
 
 /// The lines of a mark that say which part the options ask for.
 pub fn part_lines(alloc: Global, options: &Options<'_, '_>) -> Result<Vec<Word>, AmendError>
-    ensures { IfErr result (λ e. e ≡ no_memory) }
+    ensures lines { IfOk result (λ lines. lines.items ≡ spec.part_lines (options_in options.now)) }
+    ensures fault { IfErr result (λ e. e ≡ no_memory) }
 {
     let mut lines = Vec::new(alloc);
     push_lines(alloc, &mut lines, b"keep ", options.keep.unwrap_or(&[]))?;
     push_lines(alloc, &mut lines, b"remove ", options.remove.unwrap_or(&[]))?;
-    if let Some(time) = options.from {
-        push_lines(alloc, &mut lines, b"from ", &[time])?;
-    }
-    if let Some(time) = options.to {
-        push_lines(alloc, &mut lines, b"to ", &[time])?;
-    }
+    push_lines(alloc, &mut lines, b"from ", options.from.as_slice())?;
+    push_lines(alloc, &mut lines, b"to ", options.to.as_slice())?;
     Ok(lines)
 }
 
@@ -110,7 +108,9 @@ fn push_lines(
     option: &[u8],
     values: &[&str],
 ) -> Result<(), AmendError>
-    ensures { IfErr result (λ e. e ≡ no_memory) }
+    ensures lines { OnOk result (lines.new.items ≡ lines.old.items
+        ++ spec.option_lines option.now (map (λ value. value.now) values.now)) }
+    ensures fault { IfErr result (λ e. e ≡ no_memory) }
 {
     for value in values {
         let line = line_of(alloc, option, value.as_bytes()).map_err(|_| NO_MEMORY)?;
@@ -120,7 +120,9 @@ fn push_lines(
 }
 
 /// A line of an option and its value.
-fn line_of(alloc: Global, option: &[u8], value: &[u8]) -> Result<Word, AllocError> {
+fn line_of(alloc: Global, option: &[u8], value: &[u8]) -> Result<Word, AllocError>
+    ensures { IfOk result (λ line. line ≡ option.now ++ value.now) }
+{
     let mut line = Vec::new(alloc);
     line.extend_from_slice(option)?;
     line.extend_from_slice(value)?;
