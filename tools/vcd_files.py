@@ -62,24 +62,6 @@ PART = [
     ("--from", "TIME", "the first tick of a part, or a time as 1.5ms"), ("--to", "TIME", "its last one"),
 ]
 
-# What a file is that is no plain VCD, and what to do, by its first bytes.
-OTHER_FILES = [
-    (rb"\Z", "is empty", "look whether the tool that wrote it ended well"),
-    *((beginning, "is packed by " + name, "unpack it: %s -dc FILE > NEW.vcd" % name) for beginning, name in [
-        (rb"\x1f\x8b", "gzip"), (rb"BZh", "bzip2"), (rb"\xfd7zXZ", "xz"), (rb"\x28\xb5\x2f\xfd", "zstd")]),
-    (rb"PK\x03\x04", "is a zip file", "unpack it: unzip FILE"),
-    (rb"\xef\xbb\xbf", "begins with a byte order mark", r"remove it: sed '1s/^\xef\xbb\xbf//' FILE > NEW"),
-    (rb"\xff\xfe|\xfe\xff|[^\x00]\x00[^\x00]\x00|\x00[^\x00]\x00[^\x00]", "is UTF-16",
-     "make it UTF-8: iconv -f UTF-16 -t UTF-8 FILE > NEW"),
-    (rb"\x00\x00\x00\x00\x00\x00\x00\x01\x49|\xfe\x00\x00\x00", "is an FST file", "fst2vcd FILE > NEW.vcd (GTKWave)"),
-    (rb"\x13\x80", "is an LXT2 file", "lxt2vcd FILE > NEW.vcd (GTKWave)"),
-    (rb"VZ", "is a VZT file", "vzt2vcd FILE > NEW.vcd (GTKWave)"),
-    (rb"GHDLwave", "is a GHW file", "run GHDL with --vcd=FILE"),
-    (rb"META ", "begins with a line of sigrok-cli's own", "delete it: sed '/^META /d' FILE > NEW.vcd"),
-    (rb"(?s).*(\$var\s+port\s|\$dumpports)", "is extended VCD",
-     "write four-state VCD ($dumpvars in place of $dumpports), or evcd2vcd FILE > NEW.vcd (GTKWave)"),
-]
-
 
 class Trouble(argparse.ArgumentTypeError):
     """Why a tool ends, refuses a word or leaves a capture as it is: a line for its user, the status, and more lines."""
@@ -336,11 +318,6 @@ def ticks_of(time, timescale):
 def matcher(pattern):
     """A test of full names by a pattern: `*` stands for any bytes, `?` for any one, and all else for itself."""
     return re.compile(os.fsencode(fnmatch.translate(shown(pattern).replace("[", "[[]")))).match
-
-
-def what_else(prefix):
-    """(what a file is, what to do) where its first bytes show that it is no plain VCD; else None."""
-    return next((others for beginning, *others in OTHER_FILES if re.match(beginning, prefix)), None)
 
 
 def add_script(parser):

@@ -25,12 +25,6 @@ MESSAGES = [Message(*found) for found in MESSAGE.findall(TEXT)]
 # What each means, and on a further line what to do.
 MEANINGS = {(one.kind, one.name): ("%s\n    %s" % (one.means, one.remedy)).replace("`", "") for one in MESSAGES}
 
-# What other lines on standard error mean.
-ENDINGS = {
-    "output: write fault": ["the new capture can't be written: is the disk full, or the old one in a sticky folder?"],
-    "out of memory": ["out of memory", MEANINGS["fault", "NoMemory"]],
-}
-
 # What is written in place of numbers, where they are refused.
 NUMBERS = {"BadNumber": "[0-9.]+[munpf]?s", "BadValueText": "0x[0-9A-Fa-f]+"}
 # The words of a command's usage that stand for a signal.
@@ -50,16 +44,15 @@ def told_end(errors, file):
     reason = next((line for line in lines if line.startswith("error: ")), last)
     fault = re.fullmatch(r"capture line ([0-9]+): (\w+)", reason)
     if fault:
-        return told_fault(file, int(fault[1]), fault[2])
-    return ENDINGS.get(reason, [reason, *before] if reason == last else [reason])
+        others = [line.partition("capture: ")[2] for line in before if line.startswith("capture: ")]
+        return others or told_fault(file, int(fault[1]), fault[2])
+    if reason == "out of memory":
+        before.append(MEANINGS["fault", "NoMemory"])
+    return [reason, *before] if reason == last else [reason]
 
 
 def told_fault(file, number, name):
     """Lines about the fault of a capture, which is open for bytes."""
-    file.seek(0)
-    other = vcd_files.what_else(file.read(vcd_files.CHUNK))
-    if other and (number == 1 or "VCD" in other[0]):
-        return ["line %d: the file %s" % (number, other[0]), other[1]]
     file.seek(0)
     line = next(itertools.islice(file, number - 1, None), b"")
     return ["line %d: %s: %s" % (number, short(line), name), MEANINGS.get(("fault", name), "")]
@@ -99,9 +92,6 @@ def told_refusal(number, name, line, listing, declared):
     told, command = ["line %d: %s: %s" % (number, short(line), name)], shown(line.split()[0])
     meaning = [MEANINGS.get(("refusal", name), "")]
     if name == "UnknownCommand":
-        other = vcd_files.what_else(line) if number == 1 else None
-        if other:
-            return told + ["the script %s: %s" % tuple(other)]
         told += ["is %s meant?" % usual for usual in difflib.get_close_matches(command.lower(), usages(), 1)]
     if name == "WrongCount" and command in usages():
         told.append("usage: %s (%s)" % usages()[command])
@@ -113,13 +103,10 @@ def told_refusal(number, name, line, listing, declared):
 
 
 def told_number(word, timescale):
-    """A line about a time with a unit, or a hexadecimal number."""
-    try:
-        if word.startswith("0x"):
-            return "%s: write %s" % (word, format(int(word, 16), "b"))
-        return "%s: write %d" % (word, vcd_files.ticks_of(vcd_files.time_of(word), timescale))
-    except vcd_files.Trouble as trouble:
-        return trouble.lines[0]
+    """A line about a time with a unit, which is no whole tick, or a hexadecimal number."""
+    if word.startswith("0x"):
+        return "%s: write %s" % (word, format(int(word, 16), "b"))
+    return "%s: %s: write ticks" % (word, "the capture has no timescale" if timescale == "none" else "no whole tick")
 
 
 def told_names(words, names, declared):

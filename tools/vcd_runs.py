@@ -18,7 +18,8 @@ INTERRUPTIONS = [signal.Signals["SIG" + name] for name in "INT TERM HUP QUIT ALR
 # The commands of a script that edit.
 EDITS = b"rename remove invert shift cut deglitch force derive".split()
 # Lines without words and comments have no reply, others one, `changes` more while later ticks follow, and those that
-# decode any number, so a listing comes behind them, which begins with HEAD. Among the replies of `spi` are the changes of CS.
+# decode any number, so a line comes behind them that is refused; where none may be, a listing, which begins with HEAD.
+# Among the replies of `spi` are the changes of CS.
 DECODERS, HEAD, LATER = {b"uart", b"spi", b"i2c"}, b"timescale ", re.compile(rb"[1-9][0-9]* \S+\n").fullmatch
 # Remarks of vcdedit-amend on a line, by its number, and on its output and the capture, on standard error.
 REMARK, OF_CAPTURE = re.compile(r"^line (\d+): (.*)\n", re.M), "capture: the last line"
@@ -56,11 +57,11 @@ def listing_of(lines):
     return Listing(shown(head[b"timescale"]), int(head[b"end"]), int(head[b"skipped"]), signals)
 
 
-def behind(line):
-    """The lines that are asked behind a line that decodes: the changes of a CS, and a listing."""
+def behind(line, last):
+    """The lines that are asked behind a line that decodes: the changes of a CS, and a last one."""
     command, *words = line.split() or [b""]
     changes = b"changes %s\n" % words[3] if command == b"spi" and words[3:4] not in ([], [b"-"]) else b""
-    return changes + b"list\n" if command in DECODERS else b""
+    return changes + last if command in DECODERS else b""
 
 
 class Run:
@@ -70,8 +71,9 @@ class Run:
         """`words` are more options. The program opens the capture by a path. If `lines` are None, it has no script."""
         self.source, self.asked, self.program = source, lines, program("vcdedit-amend")
         self.lines = vcd_files.lines_in_ticks(lines or (), source)
+        self.lists = "--all-or-nothing" in words
         # The numbers of the lines in the script below.
-        texts = [line + b"\n" + behind(line) for line in self.lines]
+        texts = [line + b"\n" + behind(line, b"list\n" if self.lists else b"?\n") for line in self.lines]
         self.numbers = list(itertools.accumulate((text.count(b"\n") for text in texts), initial=2))
         with open(os.memfd_create("script"), "wb") as script:
             script.write(b"list\n" + b"".join(texts))
@@ -112,10 +114,11 @@ class Run:
             elif command == b"list" and (one := list(said)):
                 said = listed(itertools.chain(one, replies)) if one[0].startswith(HEAD) else one
             elif command in DECODERS:
-                said = while_is(lambda one: not one.startswith(HEAD))
+                last = HEAD if self.lists else b"line %d: " % (self.numbers[place + 1] - 1)
+                said = while_is(lambda one: not one.startswith(last))
             yield from ((place, reply[:-1]) for reply in said)
             if command in DECODERS:
-                listed(replies)
+                listed(replies) if self.lists else next(replies, None)
         self.want_end()
 
     def told(self):

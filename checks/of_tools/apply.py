@@ -87,7 +87,7 @@ RUNS = [
     ("named A --dry-run", 1, ["A: as it was: NameOfSkipped: a signal would get the full name of a variable that is not "
      "edited"], {}),
     # What is refused as a whole.
-    ("script packed", 3, ["packed: as it was: line 1: the file is packed by gzip"], {}, "gzip -dc"),
+    ("script packed", 3, ["packed: as it was: the file is packed by gzip: gzip -dc FILE > NEW.vcd"], {}),
     ("script analog", 3, ["analog: as it was: line 5: A0: -10 V: BadChange"], {}, "perhaps a sample of an analog"),
     ("script torn", 3, ["torn: as it was: line 5: #9: TimeBackwards"], {}, "cut off"),
     ("none A", 4, [], {}, "none: No such file"), ("sub A", 4, [], {}, "sub: Is a directory"),
@@ -128,7 +128,7 @@ REFUSED = [
     ("invert @7", "the capture has 2 signals"),
     ("Invert tb.rx", "is invert meant?"), ("value tb.rx", "usage: value NAME TICK"),
     ("derive both and tb.rx", "usage: derive WORD not A"),
-    ("\N{BYTE ORDER MARK}invert tb.rx", "byte order mark"), ("cut 60 200", "200: BadRange", "TO is past the end"),
+    ("\N{BYTE ORDER MARK}invert tb.rx", r"line 1: \xef\xbb\xbfinvert tb.rx: UnknownCommand"), ("cut 60 200", "200: BadRange", "TO is past the end"),
 ]
 # A capture with copies of a key, its name in comments and in a scope, and a string of another signal.
 GIVEN = """$comment the key is 0x2a $end
@@ -166,8 +166,7 @@ exec %s "$@"
 ASKS, WRITES, ANY = "*'/B '*", "*'/B '*-o*", "*"
 # What a run on B does, the status, what is shown of it, and what is told besides.
 FAILING = [
-    (WRITES, "echo 'vcdedit-amend: output: write fault' >&2; exit 4", 4,
-     "the new capture can't be written: is the disk full, or the old one in a sticky folder?"),
+    (WRITES, "echo 'vcdedit-amend: output: write fault' >&2; exit 4", 4, "output: write fault"),
     (WRITES, "echo 'vcdedit-amend: out of memory' >&2; exit 5", 5, "out of memory", "B: out of memory\n"),
     (WRITES, "kill -XFSZ $$", 4, "the new capture is larger than a file may be (ulimit -f)"),
     (WRITES, "kill -9 $$", 5, "the run was ended by signal 9; without memory the system does that"),

@@ -107,7 +107,7 @@ ROWS = [
     ("", PLAIN, b"no capture\n", 2,
      "vcdedit-compare: B: line 1: no capture: UnexpectedWord\n    this word does not belong here: the file is not VCD"),
     ("", gzip.compress(b"#0\n"), PLAIN, 2,
-     "vcdedit-compare: A: line 1: the file is packed by gzip\n    unpack it: gzip -dc"),
+     "vcdedit-compare: A: the file is packed by gzip: gzip -dc FILE > NEW.vcd"),
 ]
 
 

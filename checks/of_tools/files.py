@@ -1,4 +1,4 @@
-"""What the tools share: what is left out, times, patterns and files that are no plain VCD."""
+"""What the tools share: what is left out, times and patterns."""
 
 import io
 import itertools
@@ -35,7 +35,6 @@ MATCHES = [
     ("tb.??**", b"tb.\xc3\xa9", True), ("", b"a", False), ("*[-1:0]", b"tb.q[-1:0]", True),
     ("tb.q", b"tb.q[7:0]", False), ("tb.?", b"tb.\xff", True), ("tb.q?", b"tb.q", False), ("TB.*", b"tb.q", False),
 ]
-DECLARED = b"$var wire 1 ! a $end $enddefinitions $end #0 1! #5\n"
 # Changes of `!` and `"`, and how often each kind of what is left out is in them.
 LOST = [
     (b'0! b1 " #5 0! #6 1!', {}),
@@ -46,16 +45,6 @@ LOST = [
     (b"$comment\n" + b"x" * 3 * vcd_files.CHUNK + b" y $end 0! 1!", {"change": 1, "comment": 1}),
     *((b" " * more + b"0! 1!" + b"\n#1 0!\n#2 1! 0!\n" * 9000, {"change": 9001}) for more in range(16)),
 ]
-# The first bytes of a file, and a word of what it is said to be.
-OTHERS = [
-    (b"\x1f\x8b\x08\x00", "gzip"), (b"BZh91AY&SY", "bzip2"), (b"\xfd7zXZ\x00", "xz"), (b"PK\x03\x04\x14\x00", "zip"),
-    (b"\x28\xb5\x2f\xfd\x20", "zstd"), (b"\x13\x80\x00\x01", "LXT2"), (b"VZ\x00\x01", "VZT"),
-    (b"GHDLwave\n\x10", "GHW"), (b"\xef\xbb\xbf" + DECLARED, "byte order mark"),
-    (DECLARED.decode().encode("utf-16"), "UTF-16"), (DECLARED.decode().encode("utf-16-be"), "UTF-16"),
-    (bytes([0] * 7 + [1, 0x49, 0, 0]), "FST"), (b"META samplerate: 1\n" + DECLARED, "sigrok"),
-    (b"$var port [7:0] <0 data $end\n", "extended"), (b"", "empty"), (DECLARED, "none"),
-]
-
 
 def refused(call, *words):
     """What a call gives, or None where it is refused."""
@@ -94,11 +83,14 @@ def not_built():
 def long_ones():
     """Scripts of nearly a MiB, a word that is longer than many reads, and a pattern with many stars."""
     path = store("c", text="$var wire 1 ! r $end $enddefinitions $end #0 0! #3 1! #5")
-    for line, said in (b"invert r", [b"ok"]), (b"changes r", [b"0 0", b"3 1"]):
-        with open(path, "rb") as source, vcd_runs.Run(source, [line.ljust(1047)] * 1000) as one:
+    for line, count, said in (
+        (b"invert r".ljust(1047), 1000, [b"ok"]), (b"changes r".ljust(1047), 1000, [b"0 0", b"3 1"]),
+        (b"uart r 2 8 none 1".ljust(27), 32000, []),
+    ):
+        with open(path, "rb") as source, vcd_runs.Run(source, [line] * count) as one:
             one.listing()
             found = list(one.replies())
-        yield "many long lines %s" % line, found == [(place, reply) for place in range(1000) for reply in said]
+        yield "many long lines %s" % line, found == [(place, reply) for place in range(count) for reply in said]
     reads = unittest.mock.Mock(wraps=io.BytesIO(b"x" * (200 * vcd_files.CHUNK) + b" y"))
     yield same("a long word", list(map(len, vcd_files.words_of(reads))), [200 * vcd_files.CHUNK, 1])
     yield "reads of a long word", reads.read.call_count < 20
@@ -134,5 +126,3 @@ def check():
         with open(store("c", text="$comment $timescale 1 s $end %s $enddefinitions $end" % scale), "rb") as file:
             found = vcd_files.lines_in_ticks([line.encode() for line in lines], file)
         yield same("lines in ticks", found, [line.encode() for line in lines.values()])
-    for text, what in OTHERS:
-        yield "a file that is " + what, what in (vcd_files.what_else(text) or ["none"])[0]

@@ -17,9 +17,9 @@ NAMES = [
 ]
 # What is run after installing, in another folder, the status and what is shown. Each calls the program next to it.
 RUN = [
-    ("vcdedit-amend /dev/null", 4, "NotAFile"), ("vcdedit-table /dev/null list", 3, "line 1: the file is empty"),
-    ("vcdedit-compare /dev/null /dev/null", 2, "line 1: the file is empty"),
-    ("vcdedit-view /dev/null -o none.vcd", 3, "line 1: the file is empty"),
+    ("vcdedit-amend /dev/null", 4, "NotAFile"), ("vcdedit-table /dev/null list", 3, "line 1: : Truncated"),
+    ("vcdedit-compare /dev/null /dev/null", 2, "line 1: : Truncated"),
+    ("vcdedit-view /dev/null -o none.vcd", 3, "line 1: : Truncated"),
     ("vcdedit-apply /dev/null /etc/passwd", 3, "line 1: .*: UnexpectedWord"),
 ]
 COMMANDS = ["vcdedit", "vcdedit-amend", "vcdedit-apply", "vcdedit-compare", "vcdedit-table", "vcdedit-view"]

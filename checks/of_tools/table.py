@@ -60,7 +60,7 @@ TOLD = [
      "vcdedit-table: output: variables of one code that differ from now on: bench.clk, "
      "bench.transmitter.clk\nvcdedit-table: no line decodes"),
     ([SYSTEMC, "value SystemC.top.fill 3"], 1, "NoSuchName\n    SystemC.top.fill is left out: real, 1 bit\n"),
-    ([GLITCHES, "shift bench.rx 3.5us"], 1, "BadNumber\n    3.5us is between tick 3 and the next: write ticks\n"),
+    ([GLITCHES, "shift bench.rx 3.5us"], 1, "BadNumber\n    3.5us: no whole tick: write ticks\n"),
     ([GLITCHES, "force bench.rx 3 5 0x2F"], 1, "BadValueText\n    0x2F: write 101111\n"),
     ([I2C, "i2c bench.scl bench.sd"], 1, "bench.sd: NoSuchName\n    bench.sd: near names are bench.sda"),
     ([I2C, *I2C_LINE.split()], 1, "\n    quote each line: vcdedit-table CAPTURE"),

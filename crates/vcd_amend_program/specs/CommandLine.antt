@@ -1,20 +1,20 @@
 -- The options of the command line, and what its words ask for. They are the project's own.
-use Rattle.std.specs.Prelude.{ℕ, Bool, List, codes, true, false, bytes_eq, Option, Some, None}
+use Rattle.std.specs.Prelude.{ℕ, Bool, List, codes, true, Option, Some}
 use Rattle.std.specs.Prelude.{◌||◌, is_some}
 use Rattle.std.specs.Option.{option_copied}
 use Rattle.clap.specs.Words.{App, Rule, Text, all_of, first_of, matches_of, new_app, new_rule}
 use Rattle.clap.specs.Words.{one_of}
 use Rattle.clap.specs.Words.{with_rule}
 use Rattle.clap.specs.Simple.{new_shape}
-use Rattle.clap.specs.declared.builder.action.ArgAction.TheVariants.{SetTrue, Append}
-use Rattle.vcd_shell.specs.Options.{depth_asked, depth_option, input_option}
-use Rattle.vcd_shell.specs.Options.{output_option, value_option}
+use Rattle.vcd_shell.specs.Options.{flag, input_option, is_given, list_option, output_option}
+use Rattle.vcd_shell.specs.Options.{value_option}
+use Rattle.vcd_script_shell.specs.ScriptOptions.{depth_asked, depth_option}
 use Rattle.vcd_part.specs.Requests.{texts}
 use Rattle.vcd_amend_program.specs.declared.command_line.Options.{Options}
 
--- `--NAME`, without a value
-abbrev pub flag : Text → Rule
-flag name = record (new_rule name) { long = Some name; action = Some SetTrue }
+-- `-q` or `--quiet`, where 113 is the letter `q`
+abbrev pub quiet_option : Rule
+quiet_option = record (flag (codes "quiet")) { short = Some 113 }
 
 -- `CAPTURE`, without an option
 abbrev pub capture_argument : Rule
@@ -24,22 +24,13 @@ capture_argument = record (new_rule (codes "capture")) { value_names = 1 }
 abbrev pub with_options : App → App
 with_options app = with_rule (with_rule (with_rule (with_rule (with_rule (with_rule (with_rule
     (with_rule app input_option) (value_option (codes "script"))) output_option)
-    (flag (codes "all-or-nothing"))) (flag (codes "mark"))) depth_option) (flag (codes "quiet")))
+    (flag (codes "all-or-nothing"))) (flag (codes "mark"))) depth_option) quiet_option)
     capture_argument
-
--- `--NAME VALUE`, any number of times
-abbrev pub list_option : Text → Rule
-list_option name = record (value_option name) { action = Some Append }
 
 -- with the options that say which part is meant
 abbrev pub with_part : App → App
 with_part app = with_rule (with_rule (with_rule (with_rule app (list_option (codes "keep")))
     (list_option (codes "remove"))) (value_option (codes "from"))) (value_option (codes "to"))
-
--- whether an option without a value is given, by the text that it then has
-abbrev pub is_given : Option Text → Bool
-is_given None = false
-is_given (Some text) = bytes_eq text (codes "true")
 
 -- the program with these options, help and a version; its words do not begin with its name
 abbrev pub option_app : App

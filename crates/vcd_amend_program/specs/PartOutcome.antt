@@ -12,11 +12,9 @@ use Rattle.vcd_part.specs.declared.part.PartError.{PartError}
 use Rattle.vcd_part.specs.declared.part.PartError.TheVariants as part_errors
 use Rattle.vcd_part.specs.declared.request.Request.{Request}
 use Rattle.vcd_part.specs.declared.written_part.WrittenPart.{WrittenPart}
-use Rattle.vcd_part.specs.declared.time.Time.{Time}
-use Rattle.vcd_part.specs.declared.time.Time.TheVariants.{Ticks}
 use Rattle.vcd_part.specs.PartEnds.{PartEnds}
 use Rattle.vcd_part.specs.Requests.{texts}
-use Rattle.vcd_part.specs.Times.{time_of}
+use Rattle.vcd_part.specs.Times.{time_asked}
 use Rattle.vcd_amend_program.specs.declared.amend_error.AmendError.{AmendError}
 use Rattle.vcd_amend_program.specs.declared.amend_error.AmendError.TheVariants as errors
 use Rattle.vcd_amend_program.specs.declared.amend_error.PartFault.TheVariants as faults
@@ -25,11 +23,6 @@ use Rattle.vcd_amend_program.specs.ProgramEnds.{IsCaptureFault, IsInputFault, Is
 use Rattle.vcd_amend_program.specs.ProgramEnds.{IsOutcomeOnFile}
 
 -- ---- what the words ask for
-
--- the time of a word, or so many ticks without one
-abbrev pub time_asked : Option Text → (otherwise : ℕ) → Option Time
-time_asked None otherwise = Some (Ticks otherwise)
-time_asked (Some word) otherwise = time_of word
 
 -- the request of these options
 pub record IsRequest (o : AskedOptions) (r : Request) : Type 0 where

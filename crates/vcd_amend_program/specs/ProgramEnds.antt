@@ -13,7 +13,8 @@ use Rattle.vcd_amend_run.specs.declared.running.RunOptions.{RunOptions}
 use Rattle.vcd_amend_run.specs.TakenRemarks.{TakesRemarks}
 use Rattle.vcd_amend_run.specs.declared.running.AmendRunError.{AmendRunError}
 use Rattle.vcd_amend_run.specs.declared.running.AmendRunError.TheVariants as amend_run_errors
-use Rattle.vcd_shell.specs.Opening.{default_script, names_file}
+use Rattle.vcd_script_shell.specs.ScriptOptions.{default_script}
+use Rattle.vcd_shell.specs.Opening.{names_file}
 use Rattle.vcd_devices.specs.declared.safe_file.OutputFault.{OutputFault}
 use Rattle.vcd_amend_program.specs.declared.amend_error.AmendError.{AmendError}
 use Rattle.vcd_amend_program.specs.declared.amend_error.AmendError.TheVariants as errors

@@ -5,8 +5,8 @@ use Rattle.vcd_amend_run.specs.declared.running.AmendRunError.{AmendRunError}
 use Rattle.vcd_amend_run.specs.declared.running.AmendRunError.TheVariants as run_errors
 use Rattle.vcd_part.specs.declared.request.Refusal.{Refusal}
 use Rattle.vcd_part.specs.declared.request.Refusal.TheVariants as refusals
-use Rattle.vcd_shell.specs.Report.{report_of, run_error_report}
-use Rattle.vcd_shell.specs.Report.{run_error_status}
+use Rattle.vcd_shell.specs.Report.{report_of}
+use Rattle.vcd_script_shell.specs.RunReport.{run_error_report, run_error_status}
 use Rattle.vcd_devices.specs.declared.safe_file.OutputFault.{OutputFault}
 use Rattle.vcd_devices.specs.declared.safe_file.OutputFault.TheVariants as output_faults
 use Rattle.vcd_amend_program.specs.declared.amend_error.PartFault.{PartFault}

@@ -15,7 +15,7 @@ use std::alloc::{AllocError, Global};
 use std::rt::Runtime;
 use vcd_copy::MarkHead;
 use vcd_core::{Seq, Source, Word};
-use vcd_devices::open_named;
+use vcd_devices::{ProgressLine, open_pass};
 use vcd_replace::SeenFile;
 
 /// How many bytes of a capture are read at once.
@@ -35,8 +35,7 @@ pub fn digest_of<R: Runtime + AllocGlobal>(
 ) -> Result<CaptureDigest, AmendError>
     ensures { IfErr result (λ e. (e ≡ not_read) ⊎ (e ≡ no_memory)) }
 {
-    let path = capture.path();
-    let mut source = open_named(rt, path).map_err(|_| NOT_READ)?;
+    let mut source = open_pass(rt, capture, ProgressLine::none()).map_err(|_| NOT_READ)?;
     read_digest(rt.alloc(), &mut source)
 }
 

@@ -8,7 +8,8 @@ ghost use Rattle.vcd_amend_program.specs.CommandLine as spec;
 use clap::{Arg, ArgAction, ArgMatches, Command};
 use std::alloc::{AllocError, Global};
 use vcd_journal::DEPTH_LIMIT;
-use vcd_shell::{depth_of, depth_option, input_option, output_option, script_option, value_option};
+use vcd_script_shell::{depth_of, depth_option, script_option};
+use vcd_shell::{flag, input_option, is_given, list_option, output_option, value_option};
 
 /// The version of the program.
 pub const VERSION: &str = "1.0.0";
@@ -135,16 +136,6 @@ pub fn options_of<'m, 'a>(matches: &'m ArgMatches<'a>) -> Options<'m, 'a>
     }
 }
 
-/// Whether an option without a value is given.
-fn is_given(matches: &ArgMatches<'_>, name: &str) -> bool
-    ensures { result ≡ spec.is_given (first_value (found_of matches.now) name.now) }
-{
-    match matches.get_str(name) {
-        Some(value) => value == "true",
-        None => false,
-    }
-}
-
 /// The program and its options.
 pub fn command_line<'a>(alloc: Global) -> Result<Command<'a>, AllocError>
     ensures { IfOk result (λ c. app_of c ≡ spec.option_app) }
@@ -168,7 +159,7 @@ fn with_options<'a>(program: Command<'a>, alloc: Global) -> Result<Command<'a>, 
         .arg(flag(alloc, "all-or-nothing", ALL_OR_NOTHING_HELP))?
         .arg(flag(alloc, "mark", MARK_HELP))?
         .arg(depth_option(alloc))?
-        .arg(flag(alloc, "quiet", "Write no remarks"))?
+        .arg(quiet_option(alloc))?
         .arg(capture_argument(alloc))
 }
 
@@ -177,8 +168,8 @@ fn with_part<'a>(program: Command<'a>, alloc: Global) -> Result<Command<'a>, All
     ensures { IfOk result (λ c. app_of c ≡ spec.with_part (app_of program.entry)) }
 {
     program
-        .arg(list_option(alloc, "keep", KEEP_HELP))?
-        .arg(list_option(alloc, "remove", REMOVE_HELP))?
+        .arg(list_option(alloc, "keep", "PATTERN", KEEP_HELP))?
+        .arg(list_option(alloc, "remove", "PATTERN", REMOVE_HELP))?
         .arg(value_option(alloc, "from", "TIME", FROM_HELP))?
         .arg(value_option(alloc, "to", "TIME", TO_HELP))
 }
@@ -195,20 +186,20 @@ const FROM_HELP: &str = "The first tick of the window; without it the capture's"
 
 const TO_HELP: &str = "The last tick of the window; without it the capture's";
 
-/// An option that takes a pattern, any number of times.
-fn list_option<'a>(alloc: Global, name: &'a str, help: &'a str) -> Arg<'a>
-    ensures rule { rule_of result ≡ spec.list_option name.now }
-    ensures local { result.global ≡ false }
-{
-    value_option(alloc, name, "PATTERN", help).action(ArgAction::Append)
-}
-
 /// `-i FILE` or `--input-file FILE`.
 fn file_option<'a>(alloc: Global) -> Arg<'a>
     ensures rule { rule_of result ≡ shared.input_option }
     ensures local { result.global ≡ false }
 {
     input_option(alloc).help("The capture to read: a file, or for a part also `-`, standard input")
+}
+
+/// `-q` or `--quiet`.
+fn quiet_option<'a>(alloc: Global) -> Arg<'a>
+    ensures rule { rule_of result ≡ spec.quiet_option }
+    ensures local { result.global ≡ false }
+{
+    flag(alloc, "quiet", "Write no remarks").short('q')
 }
 
 /// `CAPTURE`, without an option.
@@ -219,15 +210,4 @@ fn capture_argument<'a>(alloc: Global) -> Arg<'a>
     Arg::new(alloc, "capture")
         .value_name("CAPTURE")
         .help("The same, without -i")
-}
-
-/// `--NAME`, without a value.
-fn flag<'a>(alloc: Global, name: &'a str, help: &'a str) -> Arg<'a>
-    ensures rule { rule_of result ≡ spec.flag name.now }
-    ensures local { result.global ≡ false }
-{
-    Arg::new(alloc, name)
-        .long(name)
-        .action(ArgAction::SetTrue)
-        .help(help)
 }

@@ -7,9 +7,11 @@ use crate::amend_error::{AmendError, NOT_READ};
 use crate::command_line::Options;
 use crate::job::Job;
 use std::rt::{Files, Runtime};
+use vcd_amend_run::AmendRunError;
 use vcd_core::Source;
-use vcd_devices::{ProgressLine, Watched, tell_reason};
+use vcd_devices::{ProgressLine, Watched, tell_other_format, tell_reason};
 use vcd_replace::{Inputs, SeenFile};
+use vcd_script::RunError;
 use vcd_shell::{Origin, open_capture};
 
 /// Opens the file at a path, or standard input without a path or if it is `-`. If it can't be
@@ -40,6 +42,19 @@ pub fn find_file<'a, R: Files>(files: &R, path: Option<&'a str>) -> Option<SeenF
     SeenFile::find(files, path).ok().flatten()
 }
 
+/// Tells what the capture is if it has a fault because it is no plain VCD.
+pub fn tell_format_of<R: Runtime>(rt: &R, options: &Options<'_, '_>, error: &AmendError) {
+    if !matches!(
+        error,
+        AmendError::Run(AmendRunError::Run(RunError::Capture(_)))
+    ) {
+        return;
+    }
+    if let Some(file) = find_file(rt, options.input.or(options.capture)) {
+        tell_other_format(rt, file);
+    }
+}
+
 /// The inputs of a run that its output could replace.
 pub fn inputs_of<'r, R: Files>(files: &R, job: &Job<'r>) -> Inputs<'r> {
     let capture = match job.capture {
@@ -48,7 +63,7 @@ pub fn inputs_of<'r, R: Files>(files: &R, job: &Job<'r>) -> Inputs<'r> {
     };
     Inputs {
         capture,
-        script: job.options.script,
+        script: job.options.script.map(script_path),
     }
 }
 
@@ -59,6 +74,11 @@ fn standard_input<R: Files>(files: &R, options: &Options<'_, '_>) -> Option<Seen
         Some(_) => None,
         None => SeenFile::find(files, "/dev/stdin").ok().flatten(),
     }
+}
+
+/// The path of a script, of which `-` is standard input.
+pub fn script_path(path: &str) -> &str {
+    if path == "-" { "/dev/stdin" } else { path }
 }
 
 /// The path of a file, if it does not mean standard input.

@@ -9,6 +9,7 @@ use vcd_core::{NoMemory, Word, write_all};
 use vcd_devices::{Remarks, open_named};
 use vcd_part::PartError;
 use vcd_replace::SeenFile;
+use vcd_shell::{append_bytes, append_shown};
 use vcd_text::VARIABLE_LIMIT;
 
 /// How many names are told.
@@ -202,13 +203,9 @@ fn append_words(name: &mut Vec<u8>, words: &[Word]) -> Result<(), NoMemory> {
     Ok(())
 }
 
-/// Appends a text that a terminal can show, and ends the line. Each byte that is no visible
-/// character of ASCII and no space is shown as `?`, which matches it.
-fn append_line(text: &mut Vec<u8>, shown: &[u8]) -> Result<(), NoMemory> {
-    for byte in shown {
-        let is_plain = matches!(*byte, b' '..=b'~');
-        text.push(if is_plain { *byte } else { b'?' })?;
-    }
-    text.push(b'\n')?;
-    Ok(())
+/// Appends a text that a terminal can show, and ends the line. `?` matches each byte for which it
+/// stands.
+fn append_line(text: &mut Vec<u8>, line: &[u8]) -> Result<(), NoMemory> {
+    append_shown(text, line)?;
+    append_bytes(text, b"\n")
 }

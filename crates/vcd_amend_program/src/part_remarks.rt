@@ -3,13 +3,13 @@
 ghost use Rattle.std.specs.Prelude.{◌≡◌, ◌++◌, map, IfOk, OnOk};
 ghost use Rattle.vcd_amend_program.specs.PartRemarks as spec;
 
-use itoa::Buffer;
 use std::alloc::Global;
 use std::rt::Runtime;
 use vcd_amend_run::{append_names_remark, append_removed_remark};
 use vcd_core::{NoMemory, Word, copy_word, write_all};
 use vcd_devices::Remarks;
 use vcd_part::{NamedVariable, WrittenPart};
+use vcd_shell::{append_bytes, append_decimal};
 
 /// Remarks on a part, unless the program is to be quiet. If memory runs out, it makes no remark.
 pub fn remark_on_part<R: Runtime + AllocGlobal>(rt: &R, is_quiet: bool, written: &WrittenPart) {
@@ -88,16 +88,8 @@ fn append_line_with_number(text: &mut Vec<u8>, words: &[u8], number: u64) -> Res
         (text.new.items ≡ text.old.items ++ spec.line_with_number words.now number) }
 {
     append_bytes(text, words)?;
-    append_bytes(text, Buffer::new().format(number).as_bytes())?;
+    append_decimal(text, number)?;
     append_bytes(text, b"\n")
-}
-
-/// Appends bytes.
-fn append_bytes(text: &mut Vec<u8>, bytes: &[u8]) -> Result<(), NoMemory>
-    ensures { OnOk result (text.new.items ≡ text.old.items ++ bytes.now) }
-{
-    text.extend_from_slice(bytes)?;
-    Ok(())
 }
 
 /// The full names of variables.

@@ -1,13 +1,12 @@
 //! The part that the words of the command line ask for.
 
 ghost use Rattle.std.specs.Prelude.{◌≡◌, IfOk, IfErr};
-ghost use Rattle.std.specs.Option.{option_copied};
 ghost use Rattle.vcd_amend_program.specs.CommandLine.{options_in};
 ghost use Rattle.vcd_amend_program.specs.PartOutcome as spec;
 
 use crate::amend_error::{AmendError, PartFault};
 use crate::command_line::Options;
-use vcd_part::{Request, Time, time_of};
+use vcd_part::{Request, time_asked};
 
 /// What is asked for, if both times are such.
 pub fn request_of<'m, 'a>(options: &Options<'m, 'a>) -> Result<Request<'m, 'a>, AmendError>
@@ -22,14 +21,4 @@ pub fn request_of<'m, 'a>(options: &Options<'m, 'a>) -> Result<Request<'m, 'a>, 
         from,
         to,
     })
-}
-
-/// The time of a word, or so many ticks without one.
-fn time_asked(word: Option<&str>, otherwise: u64) -> Option<Time>
-    ensures { result ≡ spec.time_asked (option_copied word.entry) otherwise }
-{
-    match word {
-        Some(word) => time_of(word.as_bytes()),
-        None => Some(Time::Ticks(otherwise)),
-    }
 }

@@ -43,13 +43,13 @@ pub fn open_passes<'a, R: Runtime + AllocGlobal>(
 {
     let watch = Watch::begin(rt, capture.length());
     let compares = watch.line("compares the passes");
-    let checks = watch.line("checks the capture");
     let reads = watch.line_with_forecast("reads the changes");
+    let again = watch.line_with_forecast("reads other changes");
     let writes = watch.line("writes the output");
     Ok(Passes {
         declarations: open_pass(rt, capture, compares).map_err(|_| NOT_READ)?,
-        outline: open_pass(rt, capture, checks).map_err(|_| NOT_READ)?,
-        changes: open_pass(rt, capture, reads).map_err(|_| NOT_READ)?,
+        outline: open_pass(rt, capture, reads).map_err(|_| NOT_READ)?,
+        changes: open_pass(rt, capture, again).map_err(|_| NOT_READ)?,
         copy: open_pass(rt, capture, writes).map_err(|_| NOT_READ)?,
     })
 }

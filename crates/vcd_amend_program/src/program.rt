@@ -15,7 +15,7 @@ ghost use Rattle.vcd_amend_program.specs.inside.Jobs.{HasDepth, IsReady};
 use crate::amend_error::{AmendError, NO_MEMORY, NO_SCRIPT};
 use crate::capture_mark::{digest_of, head_of};
 use crate::command_line::{Options, command_line, options_of};
-use crate::inputs::inputs_of;
+use crate::inputs::{inputs_of, script_path, tell_format_of};
 use crate::job::{Job, run_of};
 use crate::part::run_part;
 use crate::passes::{clear_progress, find_capture, open_passes, refuse_changed};
@@ -34,7 +34,8 @@ use vcd_devices::{
 };
 use vcd_replace::{InPlace, SeenFile};
 use vcd_script::Summary;
-use vcd_shell::{DEFAULT_SCRIPT, Program};
+use vcd_script_shell::{DEFAULT_SCRIPT, done_status};
+use vcd_shell::Program;
 
 /// How many bytes of replies are buffered before they are written.
 const BUFFER: usize = 65_536;
@@ -45,9 +46,10 @@ pub struct VcdeditAmend;
 impl Program for VcdeditAmend {
     ghost use Rattle.std.specs.Prelude.{codes, refl};
     ghost use Rattle.vcd_amend_program.specs.CommandLine.{asked_options, option_app};
+    ghost use Rattle.vcd_script_shell.specs.RunReport.{outcome_status, outcome_text};
     ghost use Rattle.vcd_amend_program.specs.Report.{error_status, error_text};
 
-    type Error = AmendError;
+    type Outcome = Result<Summary, AmendError>;
 
     ghost name = { codes "vcdedit-amend" };
 
@@ -55,9 +57,9 @@ impl Program for VcdeditAmend {
 
     ghost can_end = { λ words. IsOutcomeOfOptions (asked_options words) };
 
-    ghost status = { error_status };
+    ghost status = { outcome_status error_status };
 
-    ghost text = { error_text };
+    ghost text = { outcome_text error_text };
 
     ghost is_free = { refl };
 
@@ -73,11 +75,19 @@ impl Program for VcdeditAmend {
         rt: &R,
         matches: &ArgMatches<'_>,
     ) -> Result<Summary, AmendError> {
-        run_options(rt, &options_of(matches))
+        let options = options_of(matches);
+        let outcome = run_options(rt, &options);
+        if let Err(error) = &outcome {
+            tell_format_of(rt, &options, error);
+        }
+        outcome
     }
 
-    fn report<W: Sink>(error: &AmendError, writer: &mut W) -> u8 {
-        report(error, writer)
+    fn report<W: Sink>(outcome: &Result<Summary, AmendError>, writer: &mut W) -> u8 {
+        match outcome {
+            Ok(summary) => done_status(summary),
+            Err(error) => report(error, writer),
+        }
     }
 }
 
@@ -182,7 +192,7 @@ fn run_passes<'a, R: Runtime<File = File> + AllocGlobal>(
 {
     match job.options.script {
         Some(path) => {
-            let mut script = open_named(rt, path).map_err(|_| NO_SCRIPT)?;
+            let mut script = open_named(rt, script_path(path)).map_err(|_| NO_SCRIPT)?;
             run_inputs(rt, passes, &mut script, job)
         }
         None => {

@@ -12,6 +12,7 @@ use vcd_amend_run::AmendRunError;
 use vcd_core::Sink;
 use vcd_devices::OutputFault;
 use vcd_part::Refusal;
+use vcd_script_shell::{report_run_error, run_error_status};
 
 /// The program's name, as its lines on standard error begin.
 pub const PROGRAM: &[u8] = b"vcdedit-amend";
@@ -49,7 +50,7 @@ fn run_status(error: &AmendRunError) -> u8
     ensures status { result ≡ run_status error.now }
 {
     match error {
-        AmendRunError::Run(error) => vcd_shell::run_error_status(error),
+        AmendRunError::Run(error) => run_error_status(error),
         AmendRunError::NameOfSkipped | AmendRunError::LineRefused => 1,
         AmendRunError::CaptureChanged => 4,
     }
@@ -195,7 +196,7 @@ fn report_run<W: Sink>(error: &AmendRunError, writer: &mut W)
         (W.taken writer.old) (W.taken writer.new) (run_text error.now) }
 {
     match error {
-        AmendRunError::Run(error) => vcd_shell::report_run_error(PROGRAM, error, writer),
+        AmendRunError::Run(error) => report_run_error(PROGRAM, error, writer),
         AmendRunError::NameOfSkipped => vcd_shell::report(
             PROGRAM,
             b"NameOfSkipped: a signal would get the full name of a variable that is not edited",

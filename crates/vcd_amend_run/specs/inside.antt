@@ -2,6 +2,7 @@
 -- them.
 pub mod CaptureAfterCuts
 pub mod HeardNames
+pub mod HollowReading
 pub mod NameHash
 pub mod OutputRemarks
 pub mod Running

@@ -1,6 +1,6 @@
 //! The full names of the signals whose changes are read.
 
-ghost use Rattle.std.specs.Prelude.{◌≡◌, nat_eq, map, IfOk};
+ghost use Rattle.std.specs.Prelude.{◌≡◌, nat_eq, map, true, IfOk};
 ghost use Rattle.std.specs.HashSet.{contains};
 ghost use Rattle.vcd_core.specs.FullName.{name_bytes};
 ghost use Rattle.vcd_core.specs.CaptureContents.{signal_contents};
@@ -10,7 +10,8 @@ use crate::name_hash::name_hash;
 use std::alloc::Global;
 use std::collections::HashSet;
 use vcd_core::{FullName, NoMemory, Signal};
-use vcd_text::{Choice, DeclaredSignal, TickRange};
+use vcd_script::split_line;
+use vcd_text::{Choice, DeclaredSignal, TickRange, Words};
 
 /// The full names of the signals whose changes are read. As a choice of a part of a file, it takes
 /// the signals of these names, at all ticks.
@@ -39,12 +40,61 @@ impl HeardNames {
         Ok(HeardNames { hashes })
     }
 
+    /// The names that lines of a script are expected to ask for. It is a guess: a line may ask for
+    /// a signal by its position, or by a name that an earlier line has given it.
+    pub fn expected(alloc: Global, script: &[u8]) -> Result<HeardNames, NoMemory> {
+        let mut hashes = HashSet::new(alloc);
+        let mut rest = script;
+        while let Some((line, following)) = split_line(rest) {
+            expect_words(&mut hashes, line)?;
+            rest = following;
+        }
+        Ok(HeardNames { hashes })
+    }
+
+    /// Whether all heard signals are taken. Signals past the end of the list are not heard.
+    pub fn take_all(&self, signals: &[Signal], heard: &[bool]) -> bool
+        ensures { result ≡ true →
+            HearsAll (hears self.now) heard.now (map signal_contents signals.now) }
+    {
+        for (signal, is_heard) in signals.iter().zip(heard) {
+            // Nested, not `&&`: the proof cites the second test alone.
+            if *is_heard {
+                if !self.hears(FullName::of(signal)) {
+                    return false;
+                }
+            }
+        }
+        true
+    }
+
     /// Whether a signal of this name is taken.
     pub fn hears(&self, name: FullName<'_>) -> bool
         ensures { result ≡ contains nat_eq self.now.hashes (name_hash (name_bytes name.entry)) }
     {
         self.hashes.contains(&name_hash(name))
     }
+}
+
+/// Expects the words of a line, unless it is a comment, or a command that reads no changes.
+fn expect_words(hashes: &mut HashSet<u64>, line: &[u8]) -> Result<(), NoMemory> {
+    let mut words = Words::new(line);
+    let Some(first) = words.next_word() else {
+        return Ok(());
+    };
+    if !may_read_changes(first.text) {
+        return Ok(());
+    }
+    for word in words {
+        hashes.insert(name_hash(FullName::of_text(word.text)))?;
+    }
+    Ok(())
+}
+
+/// Whether a line that begins with this word may read the changes of the signals that it names.
+fn may_read_changes(first: &[u8]) -> bool {
+    let is_comment = matches!(first, [b'#', ..]);
+    !is_comment && first != b"rename".as_slice() && first != b"remove".as_slice()
 }
 
 impl Choice for HeardNames {

@@ -1,6 +1,6 @@
-//! The hollow capture of a file: its outline, with the changes of some signals.
+//! The changes that lines ask for and that were not expected: the file is read again.
 
-ghost use Rattle.std.specs.Prelude.{◌≡◌, ◌≤◌, false, drop, if◌then◌else◌, length, map};
+ghost use Rattle.std.specs.Prelude.{◌≡◌, ◌⊎◌, ◌≤◌, false, drop, if◌then◌else◌, length, map};
 ghost use Rattle.std.specs.Prelude.{IfOk, IfErr, IfSome, OnOk, option_map};
 ghost use Rattle.std.specs.Vec.Iter.{into_iter_items};
 ghost use Rattle.std.specs.Io.KnownBytes.{IsAtEnd};
@@ -10,11 +10,12 @@ ghost use Rattle.vcd_core.specs.Sound.{IsSound};
 ghost use Rattle.vcd_text.specs.MemoryErrors.{memory_error};
 ghost use Rattle.vcd_text.specs.declared.reading.TheConstants.{LONG_FILE_LIMIT};
 ghost use Rattle.vcd_amend_run.specs.FileParts.{HasHollow, HearFails};
-ghost use Rattle.vcd_amend_run.specs.inside.HeardNames.{hears};
+ghost use Rattle.vcd_amend_run.specs.inside.HeardNames.{hears, HearsAll};
 ghost use Rattle.vcd_amend_run.specs.inside.WithWaves.{with_next_wave, with_part_waves, with_waves};
 ghost use Rattle.vcd_amend_run.specs.declared.hearing.HearError.TheVariants as hear_errors;
 
 use crate::heard_names::HeardNames;
+use crate::hollow_reading::outline_of;
 use std::alloc::Global;
 use std::vec::IntoIter;
 use vcd_core::{Capture, FullName, NoMemory, SIGNAL_LIMIT, Signal, Source};
@@ -44,6 +45,38 @@ impl From<NoMemory> for HearError {
     fn from(refused: NoMemory) -> HearError {
         HearError::Read(refused.into())
     }
+}
+
+/// The hollow capture with the changes of all heard signals. If names that were expected do not
+/// take them all, the file is read again.
+pub fn hear_all<R: Source>(
+    alloc: Global,
+    reader: &mut R,
+    hollow: Capture,
+    expected: &HeardNames,
+    heard: &[bool],
+) -> Result<Capture, HearError>
+    requires { R.has_failed reader.old ≡ false }
+    ensures means { IfOk result (λ capture.
+        ((contents capture ≡ contents hollow)
+        × HearsAll (hears expected.now) heard.now (contents hollow).signals)
+        ⊎ IfSome (R.coming reader.old) (λ file. (length file ≤ LONG_FILE_LIMIT)
+        × HasHollow SIGNAL_LIMIT file (spec.outline (contents hollow)) heard.now
+        (contents capture))) }
+    ensures outline { IfOk result (λ capture.
+        spec.outline (contents capture) ≡ spec.outline (contents hollow)) }
+    ensures sound { IsSound (contents hollow) → IfOk result (λ capture.
+        IsSound (contents capture)) }
+    ensures fails { IfErr result (HearFails SIGNAL_LIMIT LONG_FILE_LIMIT
+        (spec.outline (contents hollow)) (R.coming reader.old) (R.coming reader.new)
+        (R.has_failed reader.new)) }
+{
+    if expected.take_all(hollow.signals(), heard) {
+        return Ok(hollow);
+    }
+    let outline = outline_of(alloc, hollow)?;
+    let capture = read_heard(alloc, reader, outline, heard)?;
+    Ok(capture)
 }
 
 /// Reads a file again whose outline is known, and puts the changes of some signals into the

@@ -1,10 +1,11 @@
-//! A capture file amended by a script, in four passes over the file.
+//! A capture file amended by a script, in passes over the file.
 
 ghost use Rattle.std.specs.Prelude.{◌≡◌, ◌≢◌, ◌≤◌, false, true, ℕ, List, Some, length, OnOk, IfOk};
-ghost use Rattle.std.specs.Prelude.{IfErr, IfSome, All, ◌==◌, not};
+ghost use Rattle.std.specs.Prelude.{IfErr, IfSome, All, ◌==◌, not, Ok, Err};
 ghost use Rattle.std.specs.Option.{ForSome};
 ghost use Rattle.std.specs.Io.KnownBytes.{Appends};
 ghost use Rattle.vcd_core.specs.CaptureContents.{contents};
+ghost use Rattle.vcd_core.specs.Outline.{outline};
 ghost use Rattle.vcd_core.specs.Devices.{device_end, HasPrefix};
 ghost use Rattle.vcd_core.specs.Sound.{IsSound};
 ghost use Rattle.vcd_copy.specs.CopyEnds.{CopyFails, TookFirst};
@@ -40,9 +41,10 @@ ghost use Rattle.vcd_amend_run.specs.declared.running.AmendRunError.TheVariants 
 
 use crate::after_cuts::after_cuts;
 use crate::dry_running::{DryRun, dry_run};
-use crate::hearing::{HearError, read_heard};
+use crate::heard_names::HeardNames;
+use crate::hearing::{HearError, hear_all};
+use crate::hollow_reading::{Hollow, outline_of, read_hollow};
 use crate::new_names::takes_skipped_name;
-use crate::outlining::{Outline, read_outline};
 use crate::remarks::output_remarks;
 use crate::sharing::share_capture;
 use std::alloc::Global;
@@ -62,9 +64,9 @@ use vcd_text::ReadError;
 pub struct Passes<R> {
     /// For its declarations, up to their end.
     pub declarations: R,
-    /// For its outline.
+    /// For its outline, with the changes that the script is expected to ask for.
     pub outline: R,
-    /// For the changes that the script asks for.
+    /// For the changes that the script asks for, if others were expected.
     pub changes: R,
     /// For the copy.
     pub copy: R,
@@ -176,9 +178,10 @@ impl From<CopyError> for AmendRunError {
 /// output: every byte stands that no edit in force touches. With the head of a mark the output has
 /// the mark before `$enddefinitions`, with the lines whose edits are in force.
 ///
-/// The file is read four times: its declarations, all of it without a change, the changes that the
-/// script asks for, and then for the copy. Only these changes are held, and while a signal is
-/// edited its changes before and after.
+/// The file is read twice, and its declarations once before: with the changes that the script is
+/// expected to ask for, and then for the copy. If it asks for others, the file is read again for
+/// all that it asks for. Only these changes are held, and while a signal is edited its changes
+/// before and after.
 ///
 /// Before the reply to a line it writes the remarks on it, and before the copy, or if edits are in
 /// force without an output, those on the output. If either runs out of memory, or the writer of the
@@ -336,15 +339,17 @@ fn make_plan<R: Source, S: Source>(
         (device_end S.coming S.has_failed script_reader.old script_reader.new)) }
 {
     let declared = declared_variables(alloc, &mut passes.declarations, SIGNAL_LIMIT as u32)?;
-    let outline = read_outline(alloc, &mut passes.outline)?;
-    let skipped = outline.skipped;
-    check_sizes(declared.as_slice(), &outline)?;
-    let script = read_script(alloc, script_reader)?;
-    let (capture, dry) = try_lines(alloc, outline, depth, script.as_slice())?;
+    let found = read_script(alloc, script_reader);
+    let expected = expected_names(alloc, &found)?;
+    let read = read_hollow(alloc, &mut passes.outline, &expected)?;
+    let script = after_capture(found)?;
+    check_sizes(declared.as_slice(), &read)?;
+    let skipped = read.skipped;
+    let (hollow, dry) = try_lines(alloc, read, depth, script.as_slice())?;
     let origins = dry.origins.as_slice();
-    let takes = takes_skipped_name(alloc, declared.as_slice(), &capture, origins, &dry.last)?;
+    let takes = takes_skipped_name(alloc, declared.as_slice(), &hollow, origins, &dry.last)?;
     let heard = dry.heard.as_slice();
-    let first = read_heard(alloc, &mut passes.changes, capture, heard)?;
+    let first = hear_all(alloc, &mut passes.changes, hollow, &expected, heard)?;
     Ok(Plan {
         declared,
         first,
@@ -357,40 +362,60 @@ fn make_plan<R: Source, S: Source>(
     })
 }
 
-/// Refuses an outline whose signals have not the sizes of the declared variables.
-fn check_sizes(declared: &[DeclaredVariable], outline: &Outline) -> Result<(), AmendRunError>
-    ensures sizes { OnOk result (HaveSizesOf (contents outline.now.capture).signals
+/// The script, or why it can't be read. A fault of the capture comes before that.
+fn after_capture(found: Result<Vec<u8>, RunError>) -> Result<Vec<u8>, RunError>
+    ensures script { IfOk result (λ script. found ≡ Ok script) }
+    ensures fault { IfErr result (λ e. found ≡ Err e) }
+{
+    found
+}
+
+/// The names that the lines of a script are expected to ask for; none if it can't be read.
+fn expected_names(
+    alloc: Global,
+    script: &Result<Vec<u8>, RunError>,
+) -> Result<HeardNames, NoMemory> {
+    match script {
+        Ok(script) => HeardNames::expected(alloc, script.as_slice()),
+        Err(_) => HeardNames::expected(alloc, b""),
+    }
+}
+
+/// Refuses a capture whose signals have not the sizes of the declared variables.
+fn check_sizes(declared: &[DeclaredVariable], hollow: &Hollow) -> Result<(), AmendRunError>
+    ensures sizes { OnOk result (HaveSizesOf (contents hollow.now.capture).signals
         (declarations_of declared.now)) }
     ensures changed { IfErr result (λ e. (e ≡ errors.CaptureChanged)
-        × (HaveSizesOf (contents outline.now.capture).signals
+        × (HaveSizesOf (contents hollow.now.capture).signals
         (declarations_of declared.now) → ⊥)) }
 {
-    if have_sizes_of(outline.capture.signals(), declared) {
+    if have_sizes_of(hollow.capture.signals(), declared) {
         return Ok(());
     }
     Err(AmendRunError::CaptureChanged)
 }
 
-/// Carries the lines out on the outline; gives the outline back.
+/// Carries the lines out on the outline of a hollow capture; gives the capture back.
 fn try_lines(
     alloc: Global,
-    outline: Outline,
+    hollow: Hollow,
     depth: u64,
     script: &[u8],
 ) -> Result<(Capture, DryRun), NoMemory>
-    requires sound { IsSound (contents outline.capture) }
+    requires sound { IsSound (contents hollow.capture) }
     requires depth_least { 1 ≤ depth }
     requires depth_most { depth ≤ DEPTH_LIMIT }
     requires short { length script.now ≤ SCRIPT_LIMIT }
-    ensures kept { IfOk result (λ both. contents both.0 ≡ contents outline.capture) }
-    ensures tried { IfOk result (λ both. IsDryRun (contents outline.capture) outline.skipped depth
-        (script_lines script.now) both.1) }
+    ensures kept { IfOk result (λ both. contents both.0 ≡ contents hollow.capture) }
+    ensures tried { IfOk result (λ both. IsDryRun (outline (contents hollow.capture))
+        hollow.skipped depth (script_lines script.now) both.1) }
     ensures lines { IfOk result (λ both. both.1.edit_lines.items
-        ≡ lines_in_force (contents outline.capture) outline.skipped depth
+        ≡ lines_in_force (outline (contents hollow.capture)) hollow.skipped depth
         (script_lines script.now)) }
 {
-    let (kept, tried) = share_capture(alloc, outline.capture)?;
-    match dry_run(alloc, tried, outline.skipped, depth, script) {
+    let (kept, shared) = share_capture(alloc, hollow.capture)?;
+    let outline = outline_of(alloc, shared)?;
+    match dry_run(alloc, outline, hollow.skipped, depth, script) {
         Ok(dry) => Ok((kept, dry)),
         Err(_) => Err(NoMemory),
     }

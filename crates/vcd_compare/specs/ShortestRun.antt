@@ -1,5 +1,7 @@
 -- The shortest run of a wave in a window: how far apart its edges are at least. The project's own.
-use Rattle.std.specs.Prelude.{ℕ, suc, ◌-◌, Bool, not, min, Option, Some, None, List, [], ◌∷◌}
+use Rattle.std.specs.Prelude.{ℕ, suc, ◌-◌, ◌*◌, Bool, not, min, nat_le, if◌then◌else◌, Option, Some}
+use Rattle.std.specs.Prelude.{None}
+use Rattle.std.specs.Prelude.{List, [], ◌∷◌}
 use Rattle.std.specs.List.{filter, range_with_len}
 use Rattle.vcd_text.specs.declared.reading.choice.TickRange.{TickRange}
 use Rattle.vcd_compare.specs.Differences.{WaveByTicks}
@@ -29,3 +31,20 @@ least_distance (t ∷ u ∷ us) = Some (lesser (u - t) (least_distance (u ∷ us
 abbrev pub shortest_run : {V : Type 0} → (same : V → V → Bool) → WaveByTicks V → TickRange
     → Option ℕ
 shortest_run same a window = least_distance (turns same a window)
+
+-- a number, if it is at most another
+abbrev pub at_most : (most : ℕ) → ℕ → Option ℕ
+at_most most n = if nat_le n most then Some n else None
+
+-- the lesser of the shortest runs of two waves, if it has at most twice the tolerance's ticks
+abbrev pub short_of : (tolerance : ℕ) → (a b : Option ℕ) → Option ℕ
+short_of tolerance None None = None
+short_of tolerance (Some n) b = at_most (tolerance * 2) (lesser n b)
+short_of tolerance None (Some n) = at_most (tolerance * 2) n
+
+-- the shortest run of two waves in a window, where the tolerance is so large that more may be
+-- forgiven than late edges
+abbrev pub short_run : {V : Type 0} → (same : V → V → Bool) → (tolerance : ℕ)
+    → (a b : WaveByTicks V) → TickRange → Option ℕ
+short_run same tolerance a b window =
+    short_of tolerance (shortest_run same a window) (shortest_run same b window)

@@ -1,4 +1,6 @@
 pub mod WaveComparison
 pub mod ShortestRun
-pub mod Merging
 pub mod Pairing
+pub mod WavePair
+pub mod Occurrences
+pub mod Pairs

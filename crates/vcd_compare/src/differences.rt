@@ -1,6 +1,6 @@
 //! The differences of two waves, as they are told.
 
-ghost use Rattle.std.specs.Prelude.{◌≡◌, ◌-◌, ◌<◌, ◌∷◌, ◌++◌, ◌^◌, [], List};
+ghost use Rattle.std.specs.Prelude.{◌≡◌, ◌-◌, ◌<◌, ◌∷◌, ◌++◌, ◌^◌, [], List, length};
 ghost use Rattle.vcd_compare.specs.Differences.{summary};
 ghost use Rattle.vcd_compare.specs.declared.differences.Difference.{Difference as DifferenceTold};
 
@@ -34,13 +34,12 @@ impl<V: Drop> Differences<V> {
         }
     }
 
-    /// Counts one more, which is the last of them.
+    /// Counts one more, which is the last of them, as far as a `u64` goes.
     pub fn add(&mut self, difference: Difference<V>)
-        requires { self.old.count < 2 ^ 64 - 1 }
-        ensures { (found : List (DifferenceTold V)) → self.old ≡ summary found →
-            self.new ≡ summary (found ++ difference ∷ []) }
+        ensures { (found : List (DifferenceTold V)) → length found < 2 ^ 64 - 1 →
+            self.old ≡ summary found → self.new ≡ summary (found ++ difference ∷ []) }
     {
-        self.count += 1;
+        self.count = self.count.saturating_add(1);
         if self.first.is_none() {
             self.first = Some(difference);
         } else {

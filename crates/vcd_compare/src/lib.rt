@@ -7,17 +7,18 @@
 
 mod differences;
 mod laws;
-mod merging;
+mod occurrences;
 mod pairing;
+mod pairs;
 mod shortest_run;
 mod wave_comparison;
+mod wave_pair;
 
 pub use differences::{Difference, Differences};
 pub use laws::{
     finds_each_difference, only_the_window_counts, partners_are_mutual, same_within_tolerance,
     same_without_tolerance,
 };
-pub use merging::compare_changes;
 pub use pairing::partners;
 pub use shortest_run::ShortestRun;
 pub use wave_comparison::WaveComparison;

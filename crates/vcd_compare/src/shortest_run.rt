@@ -1,6 +1,6 @@
 //! The shortest run of a wave: how far apart its edges are at least.
 
-ghost use Rattle.std.specs.Prelude.{◌≡◌, ℕ, ◌<◌, ◌≤◌, ◌+◌, IsTrue, IfSome, Some};
+ghost use Rattle.std.specs.Prelude.{◌≡◌, ℕ, ◌<◌, ◌≤◌, ◌+◌, IsTrue, Some};
 ghost use Rattle.vcd_compare.specs.Differences.{WaveByTicks, ticks_between};
 ghost use Rattle.vcd_compare.specs.ShortestRun.{shortest_run};
 ghost use Rattle.vcd_compare.specs.ShortestRun as spec;
@@ -34,8 +34,6 @@ impl<V: PartialEq + Drop> ShortestRun<V> {
     /// Goes on to a later tick, at which the wave has this value. It had the same as before up to
     /// that tick.
     pub fn change(&mut self, tick: u64, value: V)
-        requires { (wave : WaveByTicks V) × (first : ℕ) × (t : ℕ) × (t < tick)
-            × HasSeenRuns V.eq wave first t self.old }
         ensures { (wave : WaveByTicks V) (first t : ℕ) → ((v : V) → IsTrue (V.eq v v)) →
             t < tick → HasSeenRuns V.eq wave first t self.old →
             KeepsUntil wave t tick → value ≡ wave tick →
@@ -49,14 +47,13 @@ impl<V: PartialEq + Drop> ShortestRun<V> {
 
     /// Turns to another value at a tick.
     fn turn(&mut self, tick: u64)
-        requires { IfSome self.old.turned (λ turned. turned ≤ tick) }
         ensures { self.new ≡ record self.old {
           turned = Some tick;
           shortest = shortest_after self.old.turned tick self.old.shortest;
         } }
     {
         if let Some(turned) = self.turned {
-            self.shortest = Some(lesser(tick - turned, self.shortest));
+            self.shortest = Some(lesser(tick.saturating_sub(turned), self.shortest));
         }
         self.turned = Some(tick);
     }

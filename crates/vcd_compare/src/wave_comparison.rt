@@ -1,6 +1,6 @@
 //! The comparison of two waves, change by change.
 
-ghost use Rattle.std.specs.Prelude.{◌≡◌, ℕ, ◌-◌, ◌+◌, ◌<◌, ◌≤◌, ◌^◌, ◌++◌, List};
+ghost use Rattle.std.specs.Prelude.{◌≡◌, ℕ, ◌-◌, ◌+◌, ◌<◌, ◌≤◌, ◌^◌, ◌++◌, List, length};
 ghost use Rattle.vcd_compare.specs.Differences.{WaveByTicks, compared, ticks_between, summary};
 ghost use Rattle.vcd_compare.specs.inside.WaveComparison.{HasCompared, KeepsUntil, standing_end};
 ghost use Rattle.vcd_compare.specs.inside.WaveComparison as spec;
@@ -11,7 +11,7 @@ use vcd_text::TickRange;
 
 /// A difference that has begun.
 #[derive(Drop)]
-struct OpenDifference<V> {
+pub struct OpenDifference<V> {
     /// Its first tick.
     first: u64,
     /// The value of both waves just before, unless it begins with the window.
@@ -57,9 +57,6 @@ impl<V: PartialEq + Drop> WaveComparison<V> {
     /// Goes on to a later tick, at which the waves have these values. They had the same as before
     /// up to that tick. It takes a constant number of steps.
     pub fn change(&mut self, tick: u64, a: V, b: V)
-        requires { (tolerance : ℕ) × (wave : WaveByTicks V) × (other : WaveByTicks V)
-            × (first : ℕ) × (t : ℕ) × (t < tick)
-            × HasCompared V.eq tolerance wave other first t self.old }
         ensures { (tolerance : ℕ) (wave other : WaveByTicks V) (first t : ℕ) → t < tick →
             HasCompared V.eq tolerance wave other first t self.old →
             KeepsUntil wave t tick → KeepsUntil other t tick →
@@ -92,10 +89,8 @@ impl<V: PartialEq + Drop> WaveComparison<V> {
     /// Ends the difference that holds just before `tick`, if there is one, where both waves have
     /// the value `after`. It counts, unless it is forgiven.
     fn end_difference(&mut self, tick: u64, after: &V)
-        requires few { self.old.found.count < 2 ^ 64 - 1 }
-        requires later { 1 ≤ tick }
-        ensures found { (before : List (DifferenceTold V)) → self.old.found ≡ summary before →
-            self.new.found ≡ summary (before
+        ensures found { (before : List (DifferenceTold V)) → length before < 2 ^ 64 - 1 →
+            self.old.found ≡ summary before → self.new.found ≡ summary (before
             ++ standing_end V.eq self.old.tolerance self.old.open_difference tick after.now) }
         ensures open { self.new.open_difference ≡ None }
         ensures tolerance { self.new.tolerance ≡ self.old.tolerance }
@@ -104,17 +99,14 @@ impl<V: PartialEq + Drop> WaveComparison<V> {
             return;
         };
         if !is_forgiven(self.tolerance, &begun, tick, after) {
-            self.found.add(ended_by(begun, tick - 1));
+            self.found.add(ended_by(begun, tick.saturating_sub(1)));
         }
     }
 
     /// The differences, if the waves keep their values up to `last`, the last tick of the window.
     pub fn finish(self, last: u64) -> Differences<V>
-        requires small { last < 2 ^ 64 - 1 }
-        requires known { (tolerance : ℕ) × (wave : WaveByTicks V) × (other : WaveByTicks V)
-            × (first : ℕ) × (t : ℕ) × (t ≤ last)
-            × HasCompared V.eq tolerance wave other first t self }
         ensures { (tolerance : ℕ) (wave other : WaveByTicks V) (first t : ℕ) → t ≤ last →
+            last < 2 ^ 64 - 1 →
             HasCompared V.eq tolerance wave other first t self →
             KeepsUntil wave t (last + 1) → KeepsUntil other t (last + 1) →
             result ≡ compared V.eq tolerance wave other (ticks_between first last) }

@@ -164,6 +164,19 @@ impl Value {
     }
 }
 
+impl LetterBlock {
+    /// Whether the letters below bit `width` are those of another block.
+    #[inline(always)]
+    pub fn has_letters_of(self, other: LetterBlock, width: u64) -> bool
+        requires least { 1 ≤ width }
+        requires most { width ≤ 64 }
+        ensures { result ≡ same_letters (letters_of width (self ∷ []))
+            (letters_of width (other ∷ [])) }
+    {
+        Value::from_block(width, other).has_block(self)
+    }
+}
+
 impl PartialEq for Value {
     ghost use Rattle.vcd_core.specs.Value.{same_letters};
     ghost use Rattle.vcd_core.specs.inside.value.EqualByLetters.{same_letters-equiv};

@@ -2,5 +2,3 @@
 pub mod CutPieces
 pub mod EffectOfRecord
 pub mod Ranges
-pub mod Runs
-pub mod WithoutRepeats

@@ -1,7 +1,9 @@
 -- Lemmas: shared.
 pub mod EffectLaws
 pub mod Lists
+pub mod Runs
 pub mod RunsOfOneValue
 pub mod SignalCounts
 pub mod SoundEffects
 pub mod TouchedChanges
+pub mod WithoutRepeats

@@ -26,6 +26,6 @@ pub use laws::{
     operators_have_their_tables, remove_and_back, rename_and_back, shift_and_back,
     shift_fills_gaps,
 };
-pub use plans::inverse_of;
+pub use plans::{inverse_of, inverse_of_block};
 pub use record::Record;
 pub use reverting::revert;

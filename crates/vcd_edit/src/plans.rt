@@ -20,8 +20,9 @@ mod rename;
 mod shift;
 
 use crate::edit::Edit;
+use crate::plans::force::ForcedValue;
 use crate::record::Record;
-pub use invert::inverse_of;
+pub use invert::{inverse_of, inverse_of_block};
 use std::alloc::Global;
 use vcd_core::{Capture, NoMemory};
 
@@ -46,7 +47,7 @@ pub(crate) fn plan(alloc: Global, capture: &Capture, edit: &Edit) -> Result<Reco
             from,
             to,
             value,
-        } => force::plan(alloc, capture, signal, from, to, value),
+        } => force::plan(alloc, capture, signal, &ForcedValue { from, to, value }),
         Edit::Deglitch { signal, ticks } => deglitch::plan(alloc, capture, signal, ticks),
         Edit::Derive { word, rule } => derive::plan(alloc, capture, word, rule),
     }

@@ -49,6 +49,11 @@ time_of word =
     let digits : ℕ = prefix_len is_ascii_digit word in
     time_with (take digits word) (drop digits word)
 
+-- the time of a word, or so many ticks without one
+abbrev pub time_asked : Option (List ℕ) → (otherwise : ℕ) → Option Time
+time_asked None otherwise = Some (Ticks otherwise)
+time_asked (Some word) otherwise = time_of word
+
 -- ---- ticks
 
 -- the femtoseconds of a unit

@@ -31,5 +31,5 @@ pub use named_variable::NamedVariable;
 pub use part::{PartError, write_part};
 pub use pattern::meets;
 pub use request::{Refusal, Request};
-pub use time::{Time, time_of};
+pub use time::{Time, time_asked, time_of};
 pub use written_part::WrittenPart;

@@ -2,6 +2,7 @@
 
 ghost use Rattle.std.specs.Prelude.{◌≡◌, ◌≤◌, ◌^◌, ◌-◌, min, length, option_map, IfSome};
 ghost use Rattle.std.specs.List.{prefix_len};
+ghost use Rattle.std.specs.Option.{option_copied};
 ghost use Rattle.std.specs.Char.{is_ascii_digit};
 ghost use Rattle.vcd_core.specs.UnitNames.{unit_named};
 ghost use Rattle.vcd_part.specs.Times as spec;
@@ -29,6 +30,16 @@ pub fn time_of(word: &[u8]) -> Option<Time>
 {
     let count = digit_count(word);
     time_with(&word[..count], &word[count..])
+}
+
+/// The time of a word of the command line, or so many ticks without one.
+pub fn time_asked(word: Option<&str>, otherwise: u64) -> Option<Time>
+    ensures { result ≡ spec.time_asked (option_copied word.entry) otherwise }
+{
+    match word {
+        Some(word) => time_of(word.as_bytes()),
+        None => Some(Time::Ticks(otherwise)),
+    }
 }
 
 /// The time of digits, and of what follows them.

@@ -1,5 +1,5 @@
 -- What is found of the lines of a decoder, and may mislead. The project's own.
-use Rattle.std.specs.Prelude.{ℕ, false, true, Option, Some, None, List, []}
+use Rattle.std.specs.Prelude.{ℕ, false, Option, Some, None, List, []}
 use Rattle.std.specs.Prelude.{◌∷◌, ◌++◌}
 use Rattle.std.specs.List.{flat_map}
 use Rattle.std.specs.Option.{option_map}
@@ -28,6 +28,7 @@ use Rattle.vcd_remarks.specs.SpiSelection.{has_edge_at_change, unselected_edges}
 use Rattle.vcd_remarks.specs.UartEdges.{edges_amid_bits}
 use Rattle.vcd_remarks.specs.UartLine.{early_start, frame_ticks, long_runs, long_bit}
 use Rattle.vcd_remarks.specs.ValueRuns.{value_runs}
+use Rattle.vcd_remarks.specs.declared.lost_lines.Pull.TheVariants.{Floating, Up}
 
 -- the letter of a signal of one bit at each tick
 abbrev pub bit_line : SignalContents → ℕ → Bit
@@ -36,7 +37,7 @@ bit_line s t = letter_at (signal_value s t) 0
 -- of a line of `uart`
 abbrev pub uart_findings : UartSetup → (end : ℕ) → SignalContents → List Finding
 uart_findings u end s =
-    finding kinds.UartLost (ticks_where (becomes_lost false (bit_line s)) end)
+    finding kinds.UartLost (ticks_where (becomes_lost Floating (bit_line s)) end)
     ∷ finding kinds.UartEarlyStart (early_start (frame_ticks u) s.changes)
     ∷ finding kinds.UartLongRuns (long_runs (long_bit u) end (value_runs end s))
     ∷ finding kinds.UartEdgesAmidBits
@@ -45,7 +46,7 @@ uart_findings u end s =
 -- of the CLK of `spi`
 abbrev pub clk_findings : (end : ℕ) → SignalContents → List Finding
 clk_findings end clk =
-    finding kinds.ClkLost (ticks_where (becomes_lost false (bit_line clk)) end)
+    finding kinds.ClkLost (ticks_where (becomes_lost Floating (bit_line clk)) end)
     ∷ finding kinds.ClkShortLow (short_runs Zero end clk)
     ∷ finding kinds.ClkShortHigh (short_runs One end clk) ∷ []
 
@@ -63,7 +64,7 @@ data_findings names u clk cs end s =
 abbrev pub cs_findings : SpiSetup → (clk : SignalContents) → (end : ℕ) → SignalContents
     → List Finding
 cs_findings u clk end cs =
-    finding kinds.CsLost (ticks_where (becomes_lost false (bit_line cs)) end)
+    finding kinds.CsLost (ticks_where (becomes_lost Floating (bit_line cs)) end)
     ∷ finding kinds.CsAtEdges (ticks_where (has_edge_at_change u (bit_line clk) (bit_line cs)) end)
     ∷ finding kinds.CsUnselected (unselected_edges u (bit_line clk) (bit_line cs) end) ∷ []
 
@@ -71,8 +72,8 @@ cs_findings u clk end cs =
 abbrev pub bus_findings : (end : ℕ) → (scl sda : SignalContents) → List Finding
 bus_findings end scl sda =
     let clock = bit_line scl in let line = bit_line sda in let es = bus_events clock line end in
-    finding kinds.SclLost (ticks_where (becomes_lost true clock) end)
-    ∷ finding kinds.SdaLost (ticks_where (becomes_lost true line) end)
+    finding kinds.SclLost (ticks_where (becomes_lost Up clock) end)
+    ∷ finding kinds.SdaLost (ticks_where (becomes_lost Up line) end)
     ∷ finding kinds.BusCuts (cutting_conditions false 0 es)
     ∷ finding kinds.BusStray (stray_bits false 0 es)
     ∷ finding kinds.BusUnstopped (open_start [] es)

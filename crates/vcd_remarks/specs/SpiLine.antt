@@ -9,6 +9,7 @@ use Rattle.vcd_decode.specs.Spi.{has_sampling_edge, is_selected, segments}
 use Rattle.vcd_decode.specs.SpiSetup.{SpiSetup}
 use Rattle.vcd_remarks.specs.FoundTicks.{ticks_where}
 use Rattle.vcd_remarks.specs.LostLines.{becomes_lost}
+use Rattle.vcd_remarks.specs.declared.lost_lines.Pull.TheVariants.{Floating}
 
 -- whether a line goes straight from 0 to 1 or from 1 to 0 at a tick
 abbrev pub goes_straight : (line : ℕ → Bit) → ℕ → Bool
@@ -27,7 +28,7 @@ is_waiting_level mode clk = if mode == 0 || mode == 3 then is_zero clk else is_o
 module _ (u : SpiSetup) (clk line : ℕ → Bit) (cs : Option (ℕ → Bit)) (t : ℕ) where
   -- a line becomes x or z; without a chip select that may be between two words
   abbrev pub is_lost_in_selection : Bool
-  is_lost_in_selection = option_map_or (λ f. is_zero (f t)) cs false && becomes_lost false line t
+  is_lost_in_selection = option_map_or (λ f. is_zero (f t)) cs false && becomes_lost Floating line t
 
   -- it is sampled as it goes straight to its new value: setup 0
   abbrev pub has_no_setup : Bool

@@ -10,47 +10,58 @@ ghost use Rattle.vcd_remarks.specs.inside.LostLines as inside;
 use crate::findings::found_ticks::FoundTicks;
 use vcd_core::{Bit, BitEdge, BitEdges, Wave};
 
-/// The ticks, up to `end`, from which on a line is neither 0 nor 1, but was just before. With
-/// `z_is_one` z stands for 1, as on the lines of an I2C bus.
+/// What a line is that nothing drives, shown as z.
+#[derive(Clone, Copy)]
+pub enum Pull {
+    /// Neither 0 nor 1.
+    Floating,
+    /// Pulled up to 1, as the lines of an I2C bus.
+    Up,
+}
+
+/// The ticks, up to `end`, from which on a line is neither 0 nor 1, but was just before.
 ///
 /// It is one walk over the changes, and takes no memory.
-pub fn lost_ticks<'a>(wave: &'a Wave, end: u64, z_is_one: bool) -> FoundTicks
+pub fn lost_ticks<'a>(wave: &'a Wave, end: u64, pull: Pull) -> FoundTicks
     requires one_bit { wave.now.width ≡ 1 }
     requires ended { AllUpTo end wave.now.changes }
     ensures { result
-        ≡ found_ticks (ticks_where (spec.becomes_lost z_is_one (line_of wave.now)) end) }
+        ≡ found_ticks (ticks_where (spec.becomes_lost pull (line_of wave.now)) end) }
 {
     let mut found = FoundTicks::none();
     for edge in BitEdges::new(Some(wave), None, None, None) {
-        found = found.with_tick_if(loses_line(z_is_one, &edge), edge.tick);
+        found = found.with_tick_if(loses_line(pull, &edge), edge.tick);
     }
     found
 }
 
 /// Whether the line is lost from an edge on.
-fn loses_line(z_is_one: bool, edge: &BitEdge) -> bool
-    ensures { result ≡ inside.loses_line z_is_one edge.now }
+fn loses_line(pull: Pull, edge: &BitEdge) -> bool
+    ensures { result ≡ inside.loses_line pull edge.now }
 {
-    become_lost(z_is_one, edge.before[0], edge.at[0])
+    become_lost(pull, edge.before[0], edge.at[0])
 }
 
 /// Whether a bit is lost, and was not just before.
-pub fn become_lost(z_is_one: bool, before: Option<Bit>, at: Option<Bit>) -> bool
-    ensures { result ≡ inside.become_lost z_is_one before at }
+pub fn become_lost(pull: Pull, before: Option<Bit>, at: Option<Bit>) -> bool
+    ensures { result ≡ inside.become_lost pull before at }
 {
     match (before, at) {
-        (Some(before), Some(at)) => !is_lost(z_is_one, before) & is_lost(z_is_one, at),
+        (Some(before), Some(at)) => !is_lost(pull, before) & is_lost(pull, at),
         _ => false,
     }
 }
 
 /// Whether a letter is neither 0 nor 1.
-fn is_lost(z_is_one: bool, letter: Bit) -> bool
-    ensures { result ≡ spec.is_lost z_is_one letter }
+fn is_lost(pull: Pull, letter: Bit) -> bool
+    ensures { result ≡ spec.is_lost pull letter }
 {
     match letter {
         Bit::X => true,
-        Bit::Z => !z_is_one,
+        Bit::Z => match pull {
+            Pull::Floating => true,
+            Pull::Up => false,
+        },
         Bit::Zero | Bit::One => false,
     }
 }

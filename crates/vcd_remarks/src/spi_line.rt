@@ -10,7 +10,7 @@ ghost use Rattle.vcd_remarks.specs.SpiLine as spec;
 ghost use Rattle.vcd_remarks.specs.inside.SpiLine as inside;
 
 use crate::findings::found_ticks::FoundTicks;
-use crate::lost_lines::become_lost;
+use crate::lost_lines::{Pull, become_lost};
 use vcd_core::{BitEdge, BitEdges, Wave};
 use vcd_decode::{Spi, is_sampling, selects_chip, shows_one, shows_zero};
 
@@ -75,7 +75,7 @@ fn if_more(found: FoundTicks, others: FoundTicks) -> FoundTicks
 fn shows_lost(edge: &BitEdge) -> bool
     ensures { result ≡ inside.shows_lost edge.now }
 {
-    shows_zero(edge.at[3]) & become_lost(false, edge.before[1], edge.at[1])
+    shows_zero(edge.at[3]) & become_lost(Pull::Floating, edge.before[1], edge.at[1])
 }
 
 /// Whether the line goes straight from 0 to 1, or from 1 to 0.

@@ -14,6 +14,7 @@ mod queries;
 mod splitting;
 
 pub use command::Command;
+pub use decoders::SpiLines;
 pub use keyword::Keyword;
 pub use line::parse_line;
 pub use line_error::LineError;

@@ -1,9 +1,7 @@
 -- How a program ends on the words of its command line: the project's own.
 use Rattle.std.specs.Prelude.{◌≡◌, ℕ, List, [], Result, Ok, Err}
 use Rattle.clap.specs.Words.{App, Text, fault_of}
-use Rattle.vcd_script.specs.declared.running.run_error.Summary.{Summary}
 use Rattle.vcd_shell.specs.declared.words.WithoutRun.{WithoutRun}
-use Rattle.vcd_shell.specs.Report.{done_status}
 use Rattle.vcd_shell.specs.WithoutRun.{IsAnswer, without_run_status, without_run_text}
 
 -- words after the program's name have this ending: an outcome that they can have, if these options
@@ -14,17 +12,14 @@ HasEnding options can_end words (Ok outcome) =
     (fault_of options words ≡ []) × can_end words outcome
 HasEnding options can_end words (Err answer) = IsAnswer (fault_of options words) answer
 
--- the exit status, by that of errors
-abbrev pub ending_status : {E : Type 0} → (status : E → ℕ) → Result (Result Summary E) WithoutRun
-    → ℕ
-ending_status status (Ok (Ok summary)) = done_status summary.refused
-ending_status status (Ok (Err e)) = status e
+-- the exit status, by that of outcomes
+abbrev pub ending_status : {O : Type 0} → (status : O → ℕ) → Result O WithoutRun → ℕ
+ending_status status (Ok outcome) = status outcome
 ending_status status (Err answer) = without_run_status answer
 
--- the text on standard error, by that of errors and by the program's name, after what the run has
--- remarked there: none if it was completed
-abbrev pub ending_text : {E : Type 0} → (text : E → List ℕ) → (program : List ℕ)
-    → Result (Result Summary E) WithoutRun → List ℕ
-ending_text text program (Ok (Ok summary)) = []
-ending_text text program (Ok (Err e)) = text e
+-- the text on standard error, by that of outcomes and by the program's name, after what the run has
+-- remarked there
+abbrev pub ending_text : {O : Type 0} → (text : O → List ℕ) → (program : List ℕ)
+    → Result O WithoutRun → List ℕ
+ending_text text program (Ok outcome) = text outcome
 ending_text text program (Err answer) = without_run_text program answer

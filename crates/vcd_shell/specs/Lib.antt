@@ -2,5 +2,6 @@
 pub mod Opening
 pub mod Options
 pub mod Report
+pub mod Shown
 pub mod WithoutRun
 pub mod Endings

@@ -30,7 +30,3 @@ abbrev pub bytes_to_come : {S F : Type 0} → (S → Option (List ℕ)) → (F �
     → Origin S F → Option (List ℕ)
 bytes_to_come of_standard of_file (Standard reader) = of_standard reader
 bytes_to_come of_standard of_file (File file) = of_file file
-
--- the script without a path: the one line `list`
-abbrev pub default_script : List ℕ
-default_script = codes "list\n"

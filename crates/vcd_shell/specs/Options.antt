@@ -1,11 +1,7 @@
 -- The options that programs share: the project's own.
-use Rattle.std.specs.Prelude.{ℕ, [], ◌∷◌, codes, if◌then◌else◌, Option, Some, None}
-use Rattle.std.specs.Str.Parse.{digits_value, without_leading_plus}
+use Rattle.std.specs.Prelude.{Bool, false, bytes_eq, codes, Option, Some, None}
 use Rattle.clap.specs.Words.{Rule, Text, new_rule}
-use Rattle.clap.specs.ValueTests.{is_unsigned_in}
-use Rattle.clap.specs.declared.builder.action.ArgAction.TheVariants.{Set}
-use Rattle.clap.specs.declared.builder.value_parser.ValueParser.TheVariants as parsers
-use Rattle.vcd_journal.specs.declared.step.TheConstants.{DEPTH_LIMIT}
+use Rattle.clap.specs.declared.builder.action.ArgAction.TheVariants.{Append, SetTrue}
 
 -- `--NAME VALUE`
 abbrev pub value_option : Text → Rule
@@ -19,18 +15,15 @@ input_option = record (value_option (codes "input-file")) { short = Some 105 }
 abbrev pub output_option : Rule
 output_option = record (value_option (codes "output-file")) { short = Some 111 }
 
--- `--depth N`, a number from 1 to the limit, by default 100
-abbrev pub depth_option : Rule
-depth_option = record
-    (value_option (codes "depth")) {
-      action = Some Set;
-      defaults = codes "100" ∷ [];
-      parser = Some (parsers.Unsigned 1 DEPTH_LIMIT);
-    }
+-- `--NAME VALUE`, any number of times
+abbrev pub list_option : Text → Rule
+list_option name = record (value_option name) { action = Some Append }
 
--- the number of the depth's text, if it is from 1 to the limit; accepted words have such a text, if
--- only the default, and 1 stands for any other
-abbrev pub depth_asked : Option Text → ℕ
-depth_asked None = 1
-depth_asked (Some text) = if is_unsigned_in 1 DEPTH_LIMIT text
-    then digits_value 10 (without_leading_plus text) else 1
+-- `--NAME`, without a value
+abbrev pub flag : Text → Rule
+flag name = record (new_rule name) { long = Some name; action = Some SetTrue }
+
+-- whether an option without a value is given, by the text that it then has
+abbrev pub is_given : Option Text → Bool
+is_given None = false
+is_given (Some text) = bytes_eq text (codes "true")

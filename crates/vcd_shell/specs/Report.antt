@@ -1,15 +1,13 @@
 -- What a program reports of the faults that each may meet. The statuses and the lines are the
 -- project's own.
 use Rattle.std.specs.Prelude.{◌≡◌, ◌⊎◌, ℕ, Bool, true, false, List, [], ◌++◌, codes}
-use Rattle.std.specs.Prelude.{decimal, Option, ◌==◌, if◌then◌else◌}
+use Rattle.std.specs.Prelude.{decimal, Option}
 use Rattle.std.specs.Io.KnownBytes.{Appends}
 use Rattle.vcd_text.specs.FaultNames.{fault_name}
 use Rattle.vcd_text.specs.declared.fault.Fault.{Fault}
 use Rattle.vcd_text.specs.declared.fault.Fault.TheVariants as faults
 use Rattle.vcd_text.specs.declared.fault.WriteError.{WriteError}
 use Rattle.vcd_text.specs.declared.fault.WriteError.TheVariants as write_errors
-use Rattle.vcd_script.specs.declared.running.run_error.RunError.{RunError}
-use Rattle.vcd_script.specs.declared.running.run_error.RunError.TheVariants as run_errors
 
 -- ---- statuses
 
@@ -23,19 +21,6 @@ capture_status _ = 3
 abbrev pub write_status : WriteError → ℕ
 write_status write_errors.NoMemory = 5
 write_status (write_errors.WriteFault written) = 4
-
--- the exit status of a completed run: 1 if lines of the script were refused
-abbrev pub done_status : ℕ → ℕ
-done_status refused = if refused == 0 then 0 else 1
-
--- the exit status of a run that failed
-abbrev pub run_error_status : RunError → ℕ
-run_error_status (run_errors.Capture e) = capture_status e.fault
-run_error_status run_errors.ScriptTooLarge = 3
-run_error_status run_errors.ScriptReadFault = 4
-run_error_status (run_errors.NoMemory line) = 5
-run_error_status (run_errors.ReplyFault written) = 4
-run_error_status (run_errors.Write e) = write_status e
 
 -- ---- lines
 
@@ -63,16 +48,6 @@ abbrev pub write_report : (program : List ℕ) → WriteError → List ℕ
 write_report program write_errors.NoMemory = out_of_memory_report program
 write_report program (write_errors.WriteFault written) =
     report_of program (codes "output: write fault")
-
--- the line for a run that failed
-abbrev pub run_error_report : (program : List ℕ) → RunError → List ℕ
-run_error_report program (run_errors.Capture e) = capture_report program e.fault e.line
-run_error_report program run_errors.ScriptTooLarge = report_of program (codes "script: too large")
-run_error_report program run_errors.ScriptReadFault = report_of program (codes "script: read fault")
-run_error_report program (run_errors.NoMemory line) = out_of_memory_report program
-run_error_report program (run_errors.ReplyFault written) =
-    report_of program (codes "replies: write fault")
-run_error_report program (run_errors.Write e) = write_report program e
 
 -- a writer that has not failed took this text, and was flushed after it
 abbrev pub IsReported : (has_failed is_flushed : Bool) → (before after : Option (List ℕ))

@@ -2,6 +2,7 @@
 //! the input, and reports of faults.
 #![tactic(auto)]
 
+mod appending;
 mod late_file;
 mod opening;
 mod options;
@@ -9,11 +10,13 @@ mod program;
 mod reporting;
 mod words;
 
+pub use appending::{append_bytes, append_decimal, append_shown};
 pub use late_file::LateFile;
-pub use opening::{DEFAULT_SCRIPT, Origin, open_capture, open_script};
-pub use options::{
-    depth_of, depth_option, input_option, output_option, script_option, value_option,
-};
+pub use opening::{Origin, open_capture};
+pub use options::{flag, input_option, is_given, list_option, output_option, value_option};
 pub use program::{Program, status_of_program};
-pub use reporting::{report, report_run_error, report_with, run_error_status};
+pub use reporting::{
+    capture_status, report, report_capture, report_no_memory, report_with, report_write,
+    write_status,
+};
 pub use words::WithoutRun;

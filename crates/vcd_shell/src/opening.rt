@@ -1,14 +1,11 @@
 //! The inputs that the command line names.
 
 ghost use Rattle.std.specs.Prelude.{IfOk};
-ghost use Rattle.vcd_shell.specs.Opening.{IsFile, IsStandard, CaptureComesFrom};
+ghost use Rattle.vcd_shell.specs.Opening.{IsStandard, CaptureComesFrom};
 
 use std::io::{Input, Read};
 use std::rt::Files;
 use std::{fs, io};
-
-/// The script without a path: the capture is listed.
-pub const DEFAULT_SCRIPT: &[u8] = b"list\n";
 
 /// Where the bytes of an input come from.
 #[derive(Drop)]
@@ -41,13 +38,6 @@ pub fn open_capture<R: Files + Input>(
         Some(path) if path != "-" => Ok(Origin::File(fs::open(rt, path)?)),
         _ => open_standard(rt.reader()),
     }
-}
-
-/// Opens the script: the file at `path`.
-pub fn open_script<R: Files + Input>(rt: &R, path: &str) -> io::Result<Origin<R::Reader, R::File>>
-    ensures { IfOk result IsFile }
-{
-    Ok(Origin::File(fs::open(rt, path)?))
 }
 
 /// Opens standard input by a read of no byte, which fails if it is closed. Else the next file that

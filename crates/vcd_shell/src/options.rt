@@ -1,13 +1,11 @@
 //! The options that programs share.
 
-ghost use Rattle.std.specs.Prelude.{◌≡◌, ◌≤◌, false, codes};
-ghost use Rattle.clap.specs.Words.{found_of, one_text, rule_of};
+ghost use Rattle.std.specs.Prelude.{◌≡◌, false};
+ghost use Rattle.clap.specs.Words.{first_value, found_of, rule_of};
 ghost use Rattle.vcd_shell.specs.Options as spec;
 
-use clap::builder::ValueParser;
 use clap::{Arg, ArgAction, ArgMatches};
 use std::alloc::Global;
-use vcd_journal::DEPTH_LIMIT;
 
 /// `-i FILE` or `--input-file FILE`.
 pub fn input_option<'a>(alloc: Global) -> Arg<'a>
@@ -26,41 +24,6 @@ pub fn output_option<'a>(alloc: Global, help: &'a str) -> Arg<'a>
     value_option(alloc, "output-file", "FILE", help).short('o')
 }
 
-/// `--script FILE`.
-pub fn script_option<'a>(alloc: Global) -> Arg<'a>
-    ensures rule { rule_of result ≡ spec.value_option (codes "script") }
-    ensures local { result.global ≡ false }
-{
-    let help = "The script to carry out; without it, the one line `list`";
-    value_option(alloc, "script", "FILE", help)
-}
-
-/// `--depth N`, a number from 1 to the limit. Without it the depth is 100.
-pub fn depth_option<'a>(alloc: Global) -> Arg<'a>
-    ensures rule { rule_of result ≡ spec.depth_option }
-    ensures local { result.global ≡ false }
-{
-    Arg::new(alloc, "depth")
-        .long("depth")
-        .value_name("N")
-        .action(ArgAction::Set)
-        .value_parser(ValueParser::unsigned(1, DEPTH_LIMIT))
-        .default_value("100")
-        .help("How many edits undo and redo can take, from 1 to 1000")
-}
-
-/// The depth, which accepted words have in its range.
-pub fn depth_of(matches: &ArgMatches<'_>) -> u64
-    ensures depth { result ≡ spec.depth_asked (one_text (found_of matches.now) (codes "depth")) }
-    ensures least { 1 ≤ result }
-    ensures most { result ≤ DEPTH_LIMIT }
-{
-    match matches.get_one::<u64>("depth") {
-        Some(depth) if 1 <= depth && depth <= DEPTH_LIMIT => depth,
-        _ => 1,
-    }
-}
-
 /// An option `--NAME VALUE`, with this help.
 pub fn value_option<'a>(alloc: Global, name: &'a str, value: &'a str, help: &'a str) -> Arg<'a>
     ensures rule { rule_of result ≡ spec.value_option name.now }
@@ -70,4 +33,33 @@ pub fn value_option<'a>(alloc: Global, name: &'a str, value: &'a str, help: &'a 
         .long(name)
         .value_name(value)
         .help(help)
+}
+
+/// An option `--NAME VALUE` that may be given any number of times, with this help.
+pub fn list_option<'a>(alloc: Global, name: &'a str, value: &'a str, help: &'a str) -> Arg<'a>
+    ensures rule { rule_of result ≡ spec.list_option name.now }
+    ensures local { result.global ≡ false }
+{
+    value_option(alloc, name, value, help).action(ArgAction::Append)
+}
+
+/// An option `--NAME` without a value, with this help.
+pub fn flag<'a>(alloc: Global, name: &'a str, help: &'a str) -> Arg<'a>
+    ensures rule { rule_of result ≡ spec.flag name.now }
+    ensures local { result.global ≡ false }
+{
+    Arg::new(alloc, name)
+        .long(name)
+        .action(ArgAction::SetTrue)
+        .help(help)
+}
+
+/// Whether an option without a value is given.
+pub fn is_given(matches: &ArgMatches<'_>, name: &str) -> bool
+    ensures { result ≡ spec.is_given (first_value (found_of matches.now) name.now) }
+{
+    match matches.get_str(name) {
+        Some(value) => value == "true",
+        None => false,
+    }
 }

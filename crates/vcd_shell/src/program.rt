@@ -3,16 +3,15 @@
 ghost use Rattle.std.specs.Prelude.{◌≡◌, ◌≤◌, ◌∷◌, [], map, drop, Result, IfOk, IfErr, IsErrAnd};
 ghost use Rattle.std.specs.String.{string_bytes};
 ghost use Rattle.std.specs.Vec.Iter.{into_iter_items};
-ghost use Rattle.clap.specs.Words.{FailsBy, fault_of, found_of, matches_of, rows_of};
+ghost use Rattle.clap.specs.Words.{FailsBy, fault_of, found_of, kind_of, matches_of, rows_of};
 ghost use Rattle.clap.specs.declared.error.kind.ErrorKind.TheVariants.{ValueValidation};
-ghost use Rattle.vcd_script.specs.declared.running.run_error.Summary.{Summary as SummaryOf};
 ghost use Rattle.vcd_shell.specs.Endings.{HasEnding, ending_status, ending_text};
 ghost use Rattle.vcd_shell.specs.Report.{IsTold};
-ghost use Rattle.vcd_shell.specs.WithoutRun.{IsAnswer};
+ghost use Rattle.vcd_shell.specs.WithoutRun.{IsAnswer, IsWithoutRun};
 ghost use Rattle.vcd_shell.specs.declared.words.WithoutRun.{WithoutRun as WithoutRunOf};
 
-use crate::reporting::{done_status, report_without_run};
-use crate::words::{WithoutRun, answer_bad_words, answer_error, words_after_name};
+use crate::reporting::report_without_run;
+use crate::words::{WithoutRun, answer_bad_words, answer_error, shown_words, words_after_name};
 use clap::{ArgMatches, Command, Error};
 use std::alloc::{AllocError, Global};
 use std::env::Args;
@@ -20,17 +19,15 @@ use std::fs::File;
 use std::io;
 use std::rt::Runtime;
 use vcd_core::Sink;
-use vcd_script::Summary;
 
 /// A program: the options of its command line, and what it does for words that they accept.
 pub trait Program {
-    ghost use Rattle.std.specs.Prelude.{ℕ, List, Result, true};
+    ghost use Rattle.std.specs.Prelude.{ℕ, List, true};
     ghost use Rattle.clap.specs.Words.{App, Text, app_of, is_simple_and_free};
-    ghost use Rattle.vcd_script.specs.declared.running.run_error.Summary.{Summary};
-    ghost use Rattle.vcd_shell.specs.Report.{IsReported};
+    ghost use Rattle.vcd_shell.specs.Report.{IsTold};
 
-    /// Why a run that its words ask for was not completed.
-    type Error: Drop;
+    /// How a run that its words ask for ends.
+    type Outcome: Drop;
 
     // its name, as its lines on standard error begin
     ghost name: { List ℕ };
@@ -39,13 +36,13 @@ pub trait Program {
     ghost options: { App };
 
     // whether a run that these accepted words ask for may end so
-    ghost can_end: { List Text → Result Summary Self.Error → Type 0 };
+    ghost can_end: { List Text → Self.Outcome → Type 0 };
 
-    // the exit status of an error
-    ghost status: { Self.Error → ℕ };
+    // the exit status of an outcome
+    ghost status: { Self.Outcome → ℕ };
 
-    // its text on standard error
-    ghost text: { Self.Error → List ℕ };
+    // its text on standard error, which may be empty
+    ghost text: { Self.Outcome → List ℕ };
 
     /// Its name, as its lines on standard error begin.
     fn name() -> &'static [u8]
@@ -59,17 +56,17 @@ pub trait Program {
     fn carry_out<R: Runtime<File = File> + AllocGlobal>(
         rt: &R,
         matches: &ArgMatches<'_>,
-    ) -> Result<Summary, Self::Error>
+    ) -> Self::Outcome
         ensures { (words : List Text) → rows_of (found_of matches.now) ≡ matches_of options words →
             can_end words result };
 
-    /// Writes the text of an error, flushes it, and returns the exit status. A fault of the writer
-    /// is ignored.
-    fn report<W: Sink>(error: &Self::Error, writer: &mut W) -> u8
+    /// Writes the text of an outcome, flushes it, and returns the exit status. A fault of the
+    /// writer is ignored.
+    fn report<W: Sink>(outcome: &Self::Outcome, writer: &mut W) -> u8
         ensures most { result ≤ 5 }
-        ensures status { result ≡ status error.now }
-        ensures text { IsReported (W.has_failed writer.new) (W.is_flushed writer.new)
-            (W.taken writer.old) (W.taken writer.new) (text error.now) };
+        ensures status { result ≡ status outcome.now }
+        ensures text { IsTold (W.has_failed writer.new) (W.is_flushed writer.new)
+            (W.taken writer.old) (W.taken writer.new) (text outcome.now) };
 
     // `clap` says of such options exactly which words they accept
     ghost is_free: { is_simple_and_free options ≡ true };
@@ -86,7 +83,7 @@ pub fn status_of_program<P: Program, R: Runtime<File = File> + AllocGlobal, E: S
 ) -> u8
     ensures most { result ≤ 5 }
     // the status and the text are those of one ending, which is that of the words
-    ensures reported { (ending : Result (Result SummaryOf P.Error) WithoutRunOf) ×
+    ensures reported { (ending : Result P.Outcome WithoutRunOf) ×
         IfOk words (λ args. HasEnding P.options P.can_end
         (map string_bytes (drop 1 (into_iter_items args))) ending) ×
         IfErr words (λ _. IsErrAnd ending (IsAnswer (ValueValidation ∷ []))) ×
@@ -105,10 +102,7 @@ pub fn status_of_program<P: Program, R: Runtime<File = File> + AllocGlobal, E: S
 }
 
 /// Writes the text of an ending, flushes it, and returns the exit status.
-fn report_ending<P: Program, E: Sink>(
-    ending: Result<Result<Summary, P::Error>, WithoutRun>,
-    errors: &mut E,
-) -> u8
+fn report_ending<P: Program, E: Sink>(ending: Result<P::Outcome, WithoutRun>, errors: &mut E) -> u8
     ensures most { result ≤ 5 }
     ensures status { result ≡ ending_status P.status ending }
     ensures text { IsTold (E.has_failed errors.new) (E.is_flushed errors.new)
@@ -116,8 +110,7 @@ fn report_ending<P: Program, E: Sink>(
         (ending_text P.text P.name ending) }
 {
     match ending {
-        Ok(Ok(summary)) => done_status(&summary),
-        Ok(Err(error)) => P::report(&error, errors),
+        Ok(outcome) => P::report(&outcome, errors),
         Err(answer) => report_without_run(P::name(), &answer, errors),
     }
 }
@@ -126,7 +119,7 @@ fn report_ending<P: Program, E: Sink>(
 fn ending_of_words<P: Program, R: Runtime<File = File> + AllocGlobal>(
     rt: &R,
     words: Args,
-) -> Result<Result<Summary, P::Error>, WithoutRun>
+) -> Result<P::Outcome, WithoutRun>
     ensures { HasEnding P.options P.can_end (map string_bytes (drop 1 (into_iter_items words)))
         result }
 {
@@ -135,7 +128,24 @@ fn ending_of_words<P: Program, R: Runtime<File = File> + AllocGlobal>(
     };
     match parse_words::<P>(rt.alloc(), words.as_slice()) {
         Ok(matches) => Ok(P::carry_out(rt, &matches)),
-        Err(error) => Err(answer_error(rt, &error)),
+        Err(error) => Err(answer_shown::<P, R>(rt, &error, words.as_slice())),
+    }
+}
+
+/// What words get that are not accepted, with the error of the words as they can be shown.
+fn answer_shown<P: Program, R: Runtime + AllocGlobal>(
+    rt: &R,
+    error: &Error,
+    words: &[String],
+) -> WithoutRun
+    ensures { IsWithoutRun (kind_of error.now) result }
+{
+    let Ok(shown) = shown_words(rt.alloc(), words) else {
+        return WithoutRun::NoMemory;
+    };
+    match parse_words::<P>(rt.alloc(), shown.as_slice()) {
+        Ok(_) => answer_error(rt, error, error),
+        Err(shown) => answer_error(rt, error, &shown),
     }
 }
 

@@ -3,15 +3,13 @@
 ghost use Rattle.std.specs.Prelude.{◌≡◌, ◌≤◌, ◌++◌, false, true, OnOk, OnErr};
 ghost use Rattle.std.specs.Io.KnownBytes.{Appends};
 ghost use Rattle.vcd_shell.specs.Report.{IsReported, IsTold, capture_line_report, capture_report};
-ghost use Rattle.vcd_shell.specs.Report.{capture_status, done_status, out_of_memory_report};
-ghost use Rattle.vcd_shell.specs.Report.{report_of, run_error_report, run_error_status};
+ghost use Rattle.vcd_shell.specs.Report.{capture_status, out_of_memory_report, report_of};
 ghost use Rattle.vcd_shell.specs.Report.{write_report, write_status};
 ghost use Rattle.vcd_shell.specs.WithoutRun.{without_run_status, without_run_text};
 
 use crate::words::WithoutRun;
 use itoa::Buffer;
 use vcd_core::{ShortWrite, Sink, write_all, write_and_flush};
-use vcd_script::{RunError, Summary};
 use vcd_text::{Fault, ReadError, WriteError};
 
 /// Writes the line of a text after the program's name, and flushes the writer. A fault of the
@@ -57,22 +55,6 @@ pub fn report_write<W: Sink>(program: &[u8], error: &WriteError, writer: &mut W)
     match error {
         WriteError::NoMemory => report_no_memory(program, writer),
         WriteError::WriteFault { .. } => report(program, b"output: write fault", writer),
-    }
-}
-
-/// Writes the line for a run that failed after the program's name, and flushes the writer. A fault
-/// of the writer is ignored. It takes no memory.
-pub fn report_run_error<W: Sink>(program: &[u8], error: &RunError, writer: &mut W)
-    ensures { IsReported (W.has_failed writer.new) (W.is_flushed writer.new)
-        (W.taken writer.old) (W.taken writer.new) (run_error_report program.now error.now) }
-{
-    match error {
-        RunError::Capture(error) => report_capture(program, error, writer),
-        RunError::ScriptTooLarge => report(program, b"script: too large", writer),
-        RunError::ScriptReadFault => report(program, b"script: read fault", writer),
-        RunError::ReplyFault { .. } => report(program, b"replies: write fault", writer),
-        RunError::Write(error) => report_write(program, error, writer),
-        RunError::NoMemory { .. } => report_no_memory(program, writer),
     }
 }
 
@@ -141,28 +123,6 @@ pub fn write_status(error: &WriteError) -> u8
     match error {
         WriteError::NoMemory => 5,
         WriteError::WriteFault { .. } => 4,
-    }
-}
-
-/// The exit status of a completed run: 1 if a line of the script was refused.
-pub fn done_status(summary: &Summary) -> u8
-    ensures most { result ≤ 5 }
-    ensures status { result ≡ done_status summary.now.refused }
-{
-    if summary.refused == 0 { 0 } else { 1 }
-}
-
-/// The exit status of a run that failed.
-pub fn run_error_status(error: &RunError) -> u8
-    ensures most { result ≤ 5 }
-    ensures status { result ≡ run_error_status error.now }
-{
-    match error {
-        RunError::Capture(error) => capture_status(error.fault),
-        RunError::Write(error) => write_status(error),
-        RunError::NoMemory { .. } => 5,
-        RunError::ReplyFault { .. } | RunError::ScriptReadFault => 4,
-        RunError::ScriptTooLarge => 3,
     }
 }
 

@@ -33,15 +33,36 @@ pub fn words_after_name(alloc: Global, words: Args) -> Result<Vec<String>, Alloc
     words.skip(1).collect(alloc)
 }
 
+/// Words as a terminal can show them: `?` stands for each control character.
+pub fn shown_words(alloc: Global, words: &[String]) -> Result<Vec<String>, AllocError> {
+    let mut shown = Vec::new(alloc);
+    for word in words {
+        shown.push(shown_word(alloc, word.as_str())?)?;
+    }
+    Ok(shown)
+}
+
+/// A word as a terminal can show it.
+fn shown_word(alloc: Global, word: &str) -> Result<String, AllocError> {
+    let mut shown = String::new(alloc);
+    for letter in word.chars() {
+        shown.push(if letter.is_control() { '?' } else { letter })?;
+    }
+    Ok(shown)
+}
+
 /// What words get that `clap` does not accept. Help and the version are shown on standard output;
-/// other words are refused, with `clap`'s text of the error.
-pub fn answer_error<R: Runtime + AllocGlobal>(rt: &R, error: &Error) -> WithoutRun
+/// other words are refused, with `clap`'s text of the error of the words as they can be shown.
+pub fn answer_error<R: Runtime + AllocGlobal>(rt: &R, error: &Error, shown: &Error) -> WithoutRun
     ensures { IsWithoutRun (kind_of error.now) result }
 {
     if error.kind() == ErrorKind::OutOfMemory {
         return WithoutRun::NoMemory;
     }
-    let Ok(text) = format!(in rt.alloc(); "{error}") else {
+    if shown.kind() == ErrorKind::OutOfMemory {
+        return WithoutRun::NoMemory;
+    }
+    let Ok(text) = format!(in rt.alloc(); "{shown}") else {
         return WithoutRun::NoMemory;
     };
     if asks_for_text(error.kind()) {
@@ -63,7 +84,7 @@ pub fn answer_bad_words<R: Runtime + AllocGlobal>(
         return WithoutRun::NoMemory;
     }
     match not_text_error(command) {
-        Ok(error) => answer_error(rt, &error),
+        Ok(error) => answer_error(rt, &error, &error),
         Err(_) => WithoutRun::NoMemory,
     }
 }

@@ -1,6 +1,5 @@
 //! Edits and their undo, through the public calls.
 
-mod long_wave;
 mod refusals;
 mod worked;
 

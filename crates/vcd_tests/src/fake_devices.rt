@@ -66,8 +66,6 @@ pub struct FakeWriter {
     /// How often it was called, and how often to flush.
     pub calls: usize,
     pub flushes: usize,
-    /// How many bytes it held when it was last asked to flush.
-    pub flushed: usize,
 }
 
 impl FakeWriter {
@@ -81,7 +79,6 @@ impl FakeWriter {
             flush_fails: false,
             calls: 0,
             flushes: 0,
-            flushed: 0,
         }
     }
 
@@ -118,7 +115,6 @@ impl Write for FakeWriter {
 
     fn flush(&mut self) -> io::Result<()> {
         self.flushes = self.flushes.saturating_add(1);
-        self.flushed = self.held.len();
         if self.is_interrupted() || self.flush_fails {
             return Err(io::Error::from(ErrorKind::Interrupted));
         }

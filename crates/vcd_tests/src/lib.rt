@@ -1,9 +1,8 @@
 //! Tests of the library crates by their public calls: worked values from outside, and devices that
 //! give little or fail. They are made with enough memory.
 //!
-//! Edits are made and undone by `apply` and `revert`, steps by `run` of the journal. What runs of
-//! the program show is a case in `cases/` or a row of `checks/large`. A table is one text, and each
-//! of its lines is a row.
+//! Edits are made and undone by `apply` and `revert`. What runs of the program show is a case in
+//! `cases/` or a row of `checks/large`. A table is one text, and each of its lines is a row.
 #![tactic(auto)]
 
 #[cfg(test)]
@@ -27,10 +26,6 @@ mod names;
 #[cfg(test)]
 mod reading;
 #[cfg(test)]
-mod sessions;
-#[cfg(test)]
 mod values;
 #[cfg(test)]
 mod waves;
-#[cfg(test)]
-mod writing;

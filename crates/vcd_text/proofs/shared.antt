@@ -20,3 +20,5 @@ pub mod ScopePaths
 pub mod DeclaringWords
 pub mod NoWordLeft
 pub mod Chunks
+pub mod FirstVariables
+pub mod HeardMeaning

@@ -10,6 +10,9 @@ pub mod Faults
 pub mod FoundFaults
 pub mod Meaning
 pub mod AsDeclared
+pub mod HeardChanges
+pub mod HeardLaws
+pub mod LentChanges
 pub mod Text
 pub mod Laws
 pub mod LentWords

@@ -5,6 +5,8 @@ ghost use Rattle.vcd_text.specs.Laws.{NoFileHasMeaningAndFault, EveryFileHasMean
 ghost use Rattle.vcd_text.specs.Laws.{EveryFaultIsFound};
 ghost use Rattle.vcd_text.specs.Laws.{EveryPrefixHasAtMostOneFault, PrefixFaultIsFileFault};
 ghost use Rattle.vcd_text.specs.Laws.{TextIsReadBack, NothingElseIsReadBack, TextHasNoFault};
+ghost use Rattle.vcd_text.specs.HeardLaws.{HeardChangesGiveValues, HeardChangesRise};
+ghost use Rattle.vcd_text.specs.HeardLaws.{DeclarationsStay, HeardChangesFit};
 ghost use Rattle.vcd_text.specs.PartLaws.{PartOfPartIsPart, AllIsPart};
 
 /// A file has at most one result. It has no two meanings, no two faults, no two lines of one fault,
@@ -52,4 +54,13 @@ pub fn nothing_else_is_read_back()
 pub fn parts_agree()
     ensures part_of_part { PartOfPartIsPart }
     ensures all { AllIsPart }
+{}
+
+/// What is heard of a file is what it means: it gives each signal its value at every tick, comes in
+/// the order of ticks, and fits the variables, which stay once they are declared.
+pub fn heard_changes_are_meant()
+    ensures values { HeardChangesGiveValues }
+    ensures rise { HeardChangesRise }
+    ensures fit { HeardChangesFit }
+    ensures stay { DeclarationsStay }
 {}

@@ -3,10 +3,11 @@
 //! `read` gives the capture that a file means, or the file's one fault with its line. `read_part`
 //! gives a part of it. `write` writes the text of a capture, which reads back as the same capture.
 //! `Words` are the words of a text, each with its line. For those who make something else of a file
-//! a `FileReader` takes it in chunks: a `Listener` hears their words, and a `Parser` takes them.
+//! a `FileReader` takes it in chunks: a `Listener` hears their words, and a `Parser` takes them. A
+//! `ChangeStream` gives the changes of each chunk.
 //!
 //! The format is defined in `specs/`: `Words`, `Letters`, `Items`, `Grammar`, `Meaning`, `Faults`,
-//! `Parts` and `Text`.
+//! `Parts`, `HeardChanges` and `Text`.
 #![tactic(auto)]
 
 mod fault;
@@ -17,16 +18,17 @@ mod writing;
 
 pub use fault::{Fault, ReadError, WriteError};
 pub use laws::{
-    has_an_answer, has_one_answer, nothing_else_is_read_back, parts_agree, prefix_fault_stays,
-    prefix_has_one_fault, text_is_read_back,
+    has_an_answer, has_one_answer, heard_changes_are_meant, nothing_else_is_read_back, parts_agree,
+    prefix_fault_stays, prefix_has_one_fault, text_is_read_back,
 };
 pub use reading::choice::Unheard;
 pub use reading::file_reader::{FileReader, take_word};
 pub use reading::listener::Listener;
 pub use reading::parser::{OpenItem, Parser};
 pub use reading::{
-    Choice, CodeTargets, DeclaredSignal, FILE_LIMIT, LONG_FILE_LIMIT, Loaded, TickRange,
-    VARIABLE_LIMIT, read, read_part, value_of_digits,
+    ChangeStream, ChangeTarget, Choice, CodeTargets, Declarations, DeclaredSignal, FILE_LIMIT,
+    HeardChange, HeardChanges, LONG_FILE_LIMIT, Loaded, TickRange, VARIABLE_LIMIT, read, read_part,
+    value_of_digits,
 };
 pub use words::{WordOnLine, Words};
 pub use writing::declarations::are_same_words;

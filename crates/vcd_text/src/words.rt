@@ -2,14 +2,16 @@
 
 ghost use Rattle.std.specs.Prelude.{◌≡◌, ◌+◌, ◌<◌, ◌≤◌, ◌^◌, ◌∷◌, ◌++◌, ℕ, List, [], Bool, true};
 ghost use Rattle.std.specs.Prelude.{false, not};
-ghost use Rattle.std.specs.Prelude.{length, take, drop, MatchOption, IfSome, IfNone};
-ghost use Rattle.std.specs.List.{list_all};
+ghost use Rattle.std.specs.Prelude.{length, map, take, drop, MatchOption, IfSome, IfNone};
+ghost use Rattle.std.specs.List.{list_all, prefix_len};
+ghost use Rattle.std.specs.Simd.Lanes.{mask_l};
 ghost use Rattle.vcd_core.specs.Word as spec;
 ghost use Rattle.vcd_text.specs.Words.{words_of};
 ghost use Rattle.vcd_text.specs.inside.Words.{words_from};
 ghost use Rattle.vcd_text.specs.inside.Words.{begins_with_space, ends_before};
 ghost use Rattle.vcd_text.specs.LineFeeds.{line_feeds_in};
 
+use std::simd::prelude::*;
 use vcd_core::is_white_space;
 
 /// A word, borrowed from its text, and its line, counted from 1.
@@ -119,16 +121,45 @@ fn after_space(text: &[u8], line_feeds: u64) -> (&[u8], u64)
     (rest, lines)
 }
 
-/// The number of bytes before the first white space.
+/// How many bytes are looked at together.
+const LANES: usize = 16;
+
+/// The number of bytes before the first white space. It looks at `LANES` bytes at a time.
+#[inline(always)]
 fn word_len(text: &[u8]) -> usize
     ensures within { result ≤ length text.now }
     ensures no_space { list_all (λ b. not (spec.is_white_space b)) (take result text.now) ≡ true }
     ensures ends { ends_before true (drop result text.now) ≡ true }
 {
-    for (i, byte) in text.iter().enumerate() {
-        if is_white_space(*byte) {
-            return i;
+    let mut len = 0;
+    while text.len() - len >= LANES {
+        let found = white_space_among(u8x16::from_slice(&text[len..]));
+        if found != 0 {
+            return len + found.trailing_zeros() as usize;
         }
+        len += LANES;
     }
-    text.len()
+    word_end(text, len)
+}
+
+/// A mask of the bytes that are white space, the first at the low end.
+#[inline(always)]
+fn white_space_among(bytes: u8x16) -> u64
+    ensures { result ≡ mask_l (map spec.is_white_space bytes) }
+{
+    let control = bytes.simd_ge(u8x16::splat(9)) & bytes.simd_le(u8x16::splat(13));
+    (control | bytes.simd_eq(u8x16::splat(32))).to_bitmask()
+}
+
+/// The index of the first white space from `from` on, or else the length. It goes byte by byte.
+#[inline(never)]
+fn word_end(text: &[u8], from: usize) -> usize
+    requires { from ≤ length text.now }
+    ensures { result ≡ from + prefix_len (λ b. not (spec.is_white_space b)) (drop from text.now) }
+{
+    let mut end = from;
+    while end < text.len() && !is_white_space(text[end]) {
+        end += 1;
+    }
+    end
 }

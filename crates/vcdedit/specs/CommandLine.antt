@@ -3,8 +3,8 @@ use Rattle.std.specs.Prelude.{ℕ, List, [], ◌∷◌, codes, true, Option}
 use Rattle.std.specs.Option.{option_copied}
 use Rattle.clap.specs.Words.{App, Text, first_of, matches_of, new_app, one_of}
 use Rattle.clap.specs.Simple.{new_shape}
-use Rattle.vcd_shell.specs.Options.{depth_asked, depth_option, input_option, output_option}
-use Rattle.vcd_shell.specs.Options.{value_option}
+use Rattle.vcd_shell.specs.Options.{input_option, output_option, value_option}
+use Rattle.vcd_script_shell.specs.ScriptOptions.{depth_asked, depth_option}
 use Rattle.vcdedit.specs.declared.command_line.Options.{Options}
 
 -- the program with these options, help and a version; its words do not begin with its name

@@ -6,7 +6,7 @@ use Rattle.vcd_text.specs.declared.fault.Fault.TheVariants as faults
 use Rattle.vcd_script.specs.declared.running.run_error.RunError.{RunError}
 use Rattle.vcd_script.specs.declared.running.run_error.RunError.TheVariants as run_errors
 use Rattle.vcd_script.specs.declared.running.run_error.Summary.{Summary}
-use Rattle.vcd_shell.specs.Opening.{default_script}
+use Rattle.vcd_script_shell.specs.ScriptOptions.{default_script}
 use Rattle.vcdedit.specs.CommandLine.{AskedOptions}
 use Rattle.vcd_script.specs.RunEnds.{RunEnds}
 

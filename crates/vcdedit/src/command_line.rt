@@ -7,7 +7,8 @@ ghost use Rattle.vcdedit.specs.CommandLine.{asked_options, option_app, options_i
 use clap::{ArgMatches, Command};
 use std::alloc::{AllocError, Global};
 use vcd_journal::DEPTH_LIMIT;
-use vcd_shell::{depth_of, depth_option, input_option, output_option, script_option};
+use vcd_script_shell::{depth_of, depth_option, script_option};
+use vcd_shell::{input_option, output_option};
 
 const VERSION: &str = "1.0.0";
 

@@ -17,7 +17,8 @@ use std::rt::Runtime;
 use vcd_core::{FromBytes, FromRead, Sink, Source, ToWrite};
 use vcd_journal::DEPTH_LIMIT;
 use vcd_script::{RunError, Summary, run};
-use vcd_shell::{DEFAULT_SCRIPT, LateFile, Program, open_capture, open_script};
+use vcd_script_shell::{DEFAULT_SCRIPT, done_status, open_script};
+use vcd_shell::{LateFile, Program, open_capture};
 use vcd_text::{Fault, ReadError};
 
 /// How many bytes of replies are buffered before they are written.
@@ -37,10 +38,11 @@ pub struct Vcdedit;
 
 impl Program for Vcdedit {
     ghost use Rattle.std.specs.Prelude.{codes, refl};
-    ghost use Rattle.vcd_shell.specs.Report.{run_error_report, run_error_status};
+    ghost use Rattle.vcd_script_shell.specs.RunReport.{outcome_status, outcome_text};
+    ghost use Rattle.vcd_script_shell.specs.RunReport.{run_error_report, run_error_status};
     ghost use Rattle.vcdedit.specs.CommandLine.{asked_options, option_app};
 
-    type Error = RunError;
+    type Outcome = Result<Summary, RunError>;
 
     ghost name = { codes "vcdedit" };
 
@@ -48,9 +50,9 @@ impl Program for Vcdedit {
 
     ghost can_end = { λ words. IsOutcomeOfOptions (asked_options words) };
 
-    ghost status = { run_error_status };
+    ghost status = { outcome_status run_error_status };
 
-    ghost text = { run_error_report (codes "vcdedit") };
+    ghost text = { outcome_text (run_error_report (codes "vcdedit")) };
 
     ghost is_free = { refl };
 
@@ -69,8 +71,11 @@ impl Program for Vcdedit {
         run_options(rt, &options_of(matches))
     }
 
-    fn report<W: Sink>(error: &RunError, writer: &mut W) -> u8 {
-        report(error, writer)
+    fn report<W: Sink>(outcome: &Result<Summary, RunError>, writer: &mut W) -> u8 {
+        match outcome {
+            Ok(summary) => done_status(summary),
+            Err(error) => report(error, writer),
+        }
     }
 }
 

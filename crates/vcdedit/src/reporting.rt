@@ -1,11 +1,12 @@
 //! The report of a run: its exit status, and the line on standard error.
 
 ghost use Rattle.std.specs.Prelude.{◌≡◌, ◌≤◌, codes};
-ghost use Rattle.vcd_shell.specs.Report.{IsReported, run_error_report, run_error_status};
+ghost use Rattle.vcd_shell.specs.Report.{IsReported};
+ghost use Rattle.vcd_script_shell.specs.RunReport.{run_error_report, run_error_status};
 
 use vcd_core::Sink;
 use vcd_script::RunError;
-use vcd_shell::{report_run_error, run_error_status};
+use vcd_script_shell::{report_run_error, run_error_status};
 
 /// The program's name, as its lines on standard error begin.
 pub const PROGRAM: &[u8] = b"vcdedit";

@@ -7,9 +7,10 @@ use Rattle.clap.specs.Words.{rows_of}
 use Rattle.clap.specs.Matches.{matched_of, raw_values}
 use Rattle.clap.specs.declared.parser.matches.ArgMatches.{ArgMatches}
 use Rattle.clap.proofs.WalkLemmas.{first_value-rows, one_text-rows, raw_values-rows}
-use Rattle.vcd_shell.specs.Options.{depth_asked}
+use Rattle.vcd_shell.specs.Options.{is_given}
+use Rattle.vcd_script_shell.specs.ScriptOptions.{depth_asked}
 use Rattle.vcd_part.specs.Requests.{texts}
-use Rattle.vcd_amend_program.specs.CommandLine.{asked_options, is_given, option_app, options_in}
+use Rattle.vcd_amend_program.specs.CommandLine.{asked_options, option_app, options_in}
 
 -- the options that the getters read
 pub read_options : (m : ArgMatches) (words : List Text) (input capture script output : Option (Bor Text)) (depth : ℕ)

@@ -169,7 +169,7 @@ origins_stay o kept first skipped depth lines dry found same again =
     (ap (λ (h : History). h.edits) (history_is_of_outline o first skipped depth lines (length lines) outlines))
 
 -- names are known from outlines
-names_by_outlines : (ds : List VariableDeclaration) (os : List ℕ) (ss ts us vs : List SignalContents)
+pub names_by_outlines : (ds : List VariableDeclaration) (os : List ℕ) (ss ts us vs : List SignalContents)
     → map without_changes ss ≡ map without_changes ts → map without_changes us ≡ map without_changes vs
     → takes_skipped_name ds ss os us ≡ takes_skipped_name ds ts os vs
 names_by_outlines ds os ss ts us vs firsts lasts =

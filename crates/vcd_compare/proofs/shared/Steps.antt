@@ -132,7 +132,7 @@ module _ {V : Type 0} (same : V → V → Bool) (tolerance : ℕ) (a b : WaveByT
   pub step_same : (t tick : ℕ) (c new : WaveComparison V) → t < tick → HasCompared same tolerance a b first t c
       → KeepsUntil a t tick → KeepsUntil b t tick → same (a tick) (b tick) ≡ true
       → new.tolerance ≡ c.tolerance → new.open_difference ≡ None → new.value ≡ Some (a tick)
-      → ((before : List (Difference V)) → c.found ≡ summary before
+      → ((before : List (Difference V)) → length before ≤ t → c.found ≡ summary before
       → new.found ≡ summary (before ++ standing_end same c.tolerance c.open_difference tick (a tick)))
       → HasCompared same tolerance a b first tick new
   step_same t tick c new later is keep_a keep_b alike tolerance_is open_is value_is found_is =
@@ -145,7 +145,7 @@ module _ {V : Type 0} (same : V → V → Bool) (tolerance : ℕ) (a b : WaveByT
         tolerance_is = tolerance_is ∙ is.tolerance_is;
         open_is = subst (IsOpenIf same a b first tick new.value) (sym open_is) (not_from_true _ alike, value_is);
         found = is.found ++ more;
-        found_is = found_is is.found is.found_is
+        found_is = found_is is.found is.few is.found_is
             ∙ ap (λ x. summary (is.found ++ standing_end same x c.open_difference tick (a tick))) is.tolerance_is;
         few = simp length-append (omega (arith, few, short));
         all = λ last upto.
@@ -316,11 +316,12 @@ module _ {V : Type 0} (same : V → V → Bool) (tolerance : ℕ) (a b : WaveByT
   pub finish_one : (t last : ℕ) (c : WaveComparison V) (o : OpenDifference V) (found : Differences V)
       → c.open_difference ≡ Some o → t ≤ last → HasCompared same tolerance a b first t c
       → KeepsUntil a t (last + 1) → KeepsUntil b t (last + 1)
-      → ((before : List (Difference V)) → c.found ≡ summary before → found ≡ summary (before ++ ended_by o last ∷ []))
+      → ((before : List (Difference V)) → length before ≤ t → c.found ≡ summary before
+      → found ≡ summary (before ++ ended_by o last ∷ []))
       → found ≡ compared same tolerance a b (ticks_between first last)
   finish_one t last c o found is_open upto is keep_a keep_b found_is =
       finish t last c found upto is keep_a keep_b
-      (found_is is.found is.found_is
+      (found_is is.found is.few is.found_is
       ∙ ap (λ x. summary (is.found ++ map (λ x. ended_by x last) (option_to_list x))) (sym is_open))
 
   pub finish_none : (t last : ℕ) (c : WaveComparison V) → c.open_difference ≡ None
@@ -331,11 +332,3 @@ module _ {V : Type 0} (same : V → V → Bool) (tolerance : ℕ) (a b : WaveByT
       finish t last c c.found upto is keep_a keep_b
       (is.found_is ∙ ap summary (sym (append-nil is.found))
       ∙ ap (λ x. summary (is.found ++ map (λ x. ended_by x last) (option_to_list x))) (sym is_open))
-
-  -- fewer differences than ticks were found
-  pub room_for_one : (t : ℕ) (c : WaveComparison V) (n : ℕ) → HasCompared same tolerance a b first t c → t < n
-      → c.found.count < n
-  room_for_one t c n is less =
-      let few = is.few in
-      let e : c.found.count ≡ length is.found = ap (λ x. x.count) is.found_is in
-      omega arith

@@ -78,6 +78,21 @@ fn make_room(changes: &mut Vec<Change>) -> Result<(), NoMemory>
     if changes.len() < changes.capacity() {
         return Ok(());
     }
+    make_more_room(changes)
+}
+
+/// Makes room in a full list, as [`make_room`] does.
+///
+/// As it is no part of its callers, LLVM builds a change that is pushed in its place in the list.
+#[cold]
+#[inline(never)]
+fn make_more_room(changes: &mut Vec<Change>) -> Result<(), NoMemory>
+    ensures changes { changes.new.items ≡ changes.old.items }
+    ensures room { OnOk result (vec_len changes.new < vec_capacity changes.new) }
+    ensures capacity { vec_capacity changes.old ≤ vec_capacity changes.new }
+    ensures grown_room { vec_capacity changes.new ≤ max (vec_capacity changes.old)
+        (vec_len changes.old + max (vec_len changes.old) LEAST_ROOM) }
+{
     changes.reserve_exact(changes.len().max(LEAST_ROOM))?;
     Ok(())
 }

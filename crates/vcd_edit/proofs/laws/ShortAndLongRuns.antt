@@ -18,7 +18,7 @@ use Rattle.vcd_edit.proofs.checking.Faults.{no_fault, position_below}
 use Rattle.vcd_edit.proofs.shared.SoundEffects.{effect_is_sound, sound_at}
 use Rattle.vcd_edit.proofs.shared.RunsOfOneValue.{StartsAt, EndsAt, start_is, end_is, run_same}
 use Rattle.vcd_edit.proofs.shared.RunsOfOneValue.{starts_before, ends_after}
-use Rattle.vcd_edit.proofs.plans.Runs.{run_stays, run_falls, deglitch_is_wave}
+use Rattle.vcd_edit.proofs.shared.Runs.{run_stays, run_falls, deglitch_is_wave}
 
 -- ---- steady values
 

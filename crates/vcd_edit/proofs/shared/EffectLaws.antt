@@ -31,7 +31,7 @@ use Rattle.vcd_edit.specs.EffectLaws.{CutsCommute, ShiftAndBack, ForceIsLocal, L
 use Rattle.vcd_edit.specs.EffectLaws.{RemoveAndBack, BitOfOneBit, ShiftFillsGaps, DerivedBesideFirstOperand}
 use Rattle.vcd_edit.proofs.shared.SoundEffects.{sound_at, value_at_width}
 use Rattle.vcd_edit.proofs.plans.CutPieces.{before_cut, after_cut}
-use Rattle.vcd_edit.proofs.plans.WithoutRepeats.{either_value}
+use Rattle.vcd_edit.proofs.shared.WithoutRepeats.{either_value}
 use Rattle.vcd_edit.proofs.plans.Ranges.{before_range, after_range, in_range}
 use Rattle.vcd_edit.proofs.exchange.ExchangedRecords.{insert-remove}
 

@@ -21,6 +21,13 @@ use crate::record::Record;
 use std::alloc::Global;
 use vcd_core::{Bit, BitEdges, Capture, NameWords, NoMemory, Seq, Signal, Value, Wave, copy_word};
 
+/// How a bit of an operand is taken.
+#[derive(Clone, Copy)]
+enum Polarity {
+    AsIs,
+    Negated,
+}
+
 /// The record that puts the new signal in after the last.
 pub(crate) fn plan(
     alloc: Global,
@@ -76,8 +83,18 @@ fn derived_wave(alloc: Global, capture: &Capture, formula: Formula) -> Result<Wa
         (formula_bit formula (contents capture.now))) }
 {
     match formula {
-        Formula::Negation(a) => wave_of_one(alloc, &signal_at(capture, a).wave, 0, true),
-        Formula::BitSelect(a, k) => wave_of_one(alloc, &signal_at(capture, a).wave, k, false),
+        Formula::Negation(a) => wave_of_one(
+            alloc,
+            &signal_at(capture, a).wave,
+            0,
+            Polarity::Negated,
+        ),
+        Formula::BitSelect(a, k) => wave_of_one(
+            alloc,
+            &signal_at(capture, a).wave,
+            k,
+            Polarity::AsIs,
+        ),
         Formula::Pair(operator, a, b) => {
             let first = &signal_at(capture, a).wave;
             wave_of_two(alloc, first, &signal_at(capture, b).wave, operator)
@@ -93,14 +110,14 @@ fn changes_have_form(wave: &Wave)
 }
 
 /// The wave of bit `k` of another wave, negated or as it is.
-fn wave_of_one(alloc: Global, operand: &Wave, k: u64, is_negated: bool) -> Result<Wave, NoMemory>
+fn wave_of_one(alloc: Global, operand: &Wave, k: u64, polarity: Polarity) -> Result<Wave, NoMemory>
     requires { k < operand.now.width }
     ensures { (end : ℕ) → AllUpTo end operand.now.changes → IfOk result (HasBitsUpTo end
-        (λ t. selected_bit k is_negated (value_at operand.now.width operand.now.changes t))) }
+        (λ t. selected_bit k polarity (value_at operand.now.width operand.now.changes t))) }
 {
     let mut wave = Wave::new(alloc, 1);
     for change in operand.changes() {
-        let bit = selected_bit(&change.value, k, is_negated);
+        let bit = selected_bit(&change.value, k, polarity);
         wave.push(change.tick, Value::filled(1, bit))?;
     }
     wave.shrink_to_fit();
@@ -133,10 +150,13 @@ fn wave_of_two<'a>(
 }
 
 /// Bit `k` of a value, negated or as it is.
-fn selected_bit(value: &Value, k: u64, is_negated: bool) -> Bit
+fn selected_bit(value: &Value, k: u64, polarity: Polarity) -> Bit
     requires { k < length value.now }
-    ensures { result ≡ selected_bit k is_negated value.now }
+    ensures { result ≡ selected_bit k polarity value.now }
 {
     let bit = value.bit(k);
-    if is_negated { not(bit) } else { bit }
+    match polarity {
+        Polarity::AsIs => bit,
+        Polarity::Negated => not(bit),
+    }
 }

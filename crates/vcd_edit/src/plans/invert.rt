@@ -1,6 +1,6 @@
 //! Every bit negated.
 
-ghost use Rattle.std.specs.Prelude.{◌≡◌, ◌<◌, ◌-◌, ℕ, pos, None, IfOk, length, map};
+ghost use Rattle.std.specs.Prelude.{◌≡◌, ◌<◌, ◌≤◌, ◌-◌, ◌∷◌, [], ℕ, pos, None, IfOk, length, map};
 ghost use Rattle.vcd_core.specs.CaptureContents.{contents, signal_contents};
 ghost use Rattle.vcd_core.specs.Sound.{IsSound, IsSoundSignal};
 ghost use Rattle.vcd_core.specs.Value.{all_x};
@@ -10,7 +10,7 @@ ghost use Rattle.vcd_edit.specs.Effect.{inverse_value};
 ghost use Rattle.vcd_edit.specs.EditFaults.{edit_fault};
 ghost use Rattle.vcd_edit.specs.inside.plans.RemainingChanges.{without_repeats, mapped_change};
 ghost use Rattle.std.specs.Int.{bit_at};
-ghost use Rattle.vcd_core.specs.BlockRows.{letter_in};
+ghost use Rattle.vcd_core.specs.BlockRows.{letter_in, letters_of};
 ghost use Rattle.vcd_edit.specs.inside.plans.Invert.{ShowsInverse};
 ghost use Rattle.vcd_edit.specs.inside.plans.Plan.{IsPlan, GivesValues};
 ghost use Rattle.vcd_edit.specs.declared.edit.Edit.TheVariants as edits;
@@ -74,6 +74,14 @@ fn write_inverse(value: &Value, blocks: &mut [LetterBlock])
 }
 
 /// The block with each letter negated.
+pub fn inverse_of_block(block: LetterBlock) -> LetterBlock
+    ensures { (width : ℕ) → width ≤ 64
+        → letters_of width (result ∷ []) ≡ map not_bit (letters_of width (block ∷ [])) }
+{
+    inverse_block(block)
+}
+
+/// The block with each letter negated, letter by letter.
 fn inverse_block(block: LetterBlock) -> LetterBlock
     ensures { (i : ℕ) → i < 64 → letter_in result i ≡ not_bit (letter_in block i) }
 {

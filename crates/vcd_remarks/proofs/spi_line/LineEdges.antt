@@ -25,6 +25,7 @@ use Rattle.vcd_remarks.specs.LostLines.{becomes_lost}
 use Rattle.vcd_remarks.specs.inside.LostLines.{become_lost}
 use Rattle.vcd_remarks.proofs.lost_lines.LostEdges.{never_lost}
 use Rattle.vcd_remarks.proofs.shared.FoundSoFar.{edge_ticks, edges_as_ticks, few_ticks}
+use Rattle.vcd_remarks.specs.declared.lost_lines.Pull.TheVariants.{Floating}
 
 -- the ticks that were found, if there are more than others
 pub if_more_found : (ticks others : List ℕ) → (if nat_lt (found_ticks others).count (found_ticks ticks).count
@@ -68,10 +69,10 @@ module _ (u : SpiSetup) (clk line : WaveView) (cs : Option WaveView) (end : ℕ)
   pub lost_ticks : edge_ticks shows_lost (bit_edges_of waves end)
       ≡ ticks_where (is_lost_in_selection u (line_of clk) (line_of line) chip) end
   lost_ticks = edges_as_ticks waves shows_lost (is_lost_in_selection u (line_of clk) (line_of line) chip)
-      (λ t. ap (λ b. b && becomes_lost false (line_of line) t) (zero_is t chip))
+      (λ t. ap (λ b. b && becomes_lost Floating (line_of line) t) (zero_is t chip))
       (λ e same. ap (λ bits. is_present_and is_zero (line_bit e.at 3)
-      && become_lost false (line_bit e.before 1) (line_bit bits 1)) same
-      ∙ ap (λ b. is_present_and is_zero (line_bit e.at 3) && b) (never_lost false (line_bit e.before 1))
+      && become_lost Floating (line_bit e.before 1) (line_bit bits 1)) same
+      ∙ ap (λ b. is_present_and is_zero (line_bit e.at 3) && b) (never_lost Floating (line_bit e.before 1))
       ∙ and_none (is_present_and is_zero (line_bit e.at 3))) end
 
   pub no_setup_ticks : edge_ticks (shows_no_setup u) (bit_edges_of waves end)

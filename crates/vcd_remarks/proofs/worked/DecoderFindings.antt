@@ -1,6 +1,6 @@
 -- Worked cases: what is found of the lines of decoders.
 use Rattle.std.proofs.Common.{◌≡◌, refl}
-use Rattle.std.specs.Prelude.{ℕ, false, true, Some, None, List, [], ◌∷◌, ◌++◌, map, codes}
+use Rattle.std.specs.Prelude.{ℕ, false, Some, None, List, [], ◌∷◌, ◌++◌, map, codes}
 use Rattle.std.specs.List.{range_with_len}
 use Rattle.vcd_core.specs.declared.bit.Bit.{Bit}
 use Rattle.vcd_core.specs.declared.bit.Bit.TheVariants.{Zero, One, X, Z}
@@ -26,6 +26,7 @@ use Rattle.vcd_remarks.specs.SpiSelection.{has_edge_at_change, unselected_edges}
 use Rattle.vcd_remarks.specs.UartEdges.{edges_amid_bits}
 use Rattle.vcd_remarks.specs.UartLine.{early_start, early_fall, long_runs}
 use Rattle.vcd_remarks.specs.ValueRuns.{runs_begun, value_runs}
+use Rattle.vcd_remarks.specs.declared.lost_lines.Pull.TheVariants.{Floating, Up}
 
 abbrev signal : List Change → SignalContents
 signal changes = wire (codes "a") changes
@@ -141,8 +142,8 @@ unfolding value_from
 never_selected = refl
 
 -- x at tick 0 is no loss, nor is x after z; z after 0 is one, unless it stands for 1
-lost : ticks_where (becomes_lost false (line (from 3 One ∷ from 5 Z ∷ from 6 X ∷ from 8 Zero ∷ from 9 X ∷ []))) 12
-    ++ ticks_where (becomes_lost true (line (from 3 One ∷ from 5 Z ∷ from 6 X ∷ from 8 Zero ∷ from 9 Z ∷ []))) 12
+lost : ticks_where (becomes_lost Floating (line (from 3 One ∷ from 5 Z ∷ from 6 X ∷ from 8 Zero ∷ from 9 X ∷ []))) 12
+    ++ ticks_where (becomes_lost Up (line (from 3 One ∷ from 5 Z ∷ from 6 X ∷ from 8 Zero ∷ from 9 Z ∷ []))) 12
     ≡ 5 ∷ 9 ∷ 6 ∷ []
 unfolding value_from
 lost = refl

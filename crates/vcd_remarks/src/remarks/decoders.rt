@@ -14,7 +14,7 @@ use crate::findings::finding::Finding;
 use crate::findings::finding_kind::FindingKind;
 use crate::findings::telling::append_findings;
 use crate::joint_rises::i2c_joint_rises;
-use crate::lost_lines::lost_ticks;
+use crate::lost_lines::{Pull, lost_ticks};
 use crate::remarks::runs::changes_at;
 use crate::remarks::uart_line::{early_start, long_runs};
 use crate::uart_edges::uart_edges_amid_bits;
@@ -49,7 +49,7 @@ fn uart_findings(capture: &Capture, signal: usize, setup: &Uart) -> [Finding; 4]
     let wave = scalar_wave(capture, signal);
     let changes = changes_at(capture, signal);
     let end = capture.end();
-    let lost = lost_ticks(wave, end, false);
+    let lost = lost_ticks(wave, end, Pull::Floating);
     let early = early_start(changes, setup.frame_ticks());
     let long = long_runs(changes, end, setup.sixths_of_bit(9));
     let amid_bits = uart_edges_amid_bits(wave, end, setup);
@@ -92,8 +92,8 @@ fn bus_findings(capture: &Capture, scl: usize, sda: usize) -> [Finding; 6]
     let end = capture.end();
     let bus = i2c_bus_findings(scl, sda, end);
     let joint = i2c_joint_rises(scl, sda, end);
-    let scl_lost = lost_ticks(scl, end, true);
-    let sda_lost = lost_ticks(sda, end, true);
+    let scl_lost = lost_ticks(scl, end, Pull::Up);
+    let sda_lost = lost_ticks(sda, end, Pull::Up);
     [
         scl_lost.of_kind(FindingKind::SclLost),
         sda_lost.of_kind(FindingKind::SdaLost),

@@ -14,7 +14,7 @@ ghost use Rattle.vcd_script.specs.declared.script.command.Command.TheVariants as
 use crate::findings::finding::Finding;
 use crate::findings::finding_kind::FindingKind;
 use crate::findings::telling::append_findings;
-use crate::lost_lines::lost_ticks;
+use crate::lost_lines::{Pull, lost_ticks};
 use crate::remarks::clock_runs::{short_runs_beside, short_runs_in};
 use crate::remarks::runs::changes_at;
 use crate::spi_line::spi_line_findings;
@@ -106,7 +106,7 @@ fn clk_findings(capture: &Capture, clk: usize) -> [Finding; 3]
     let wave = scalar_wave(capture, clk);
     let changes = changes_at(capture, clk);
     let end = capture.end();
-    let lost = lost_ticks(wave, end, false);
+    let lost = lost_ticks(wave, end, Pull::Floating);
     let low = short_runs_in(changes, end, Bit::Zero);
     let high = short_runs_in(changes, end, Bit::One);
     [
@@ -201,7 +201,7 @@ fn cs_findings(capture: &Capture, bus: &SpiBus, signal: usize) -> [Finding; 3]
     let clk = scalar_wave(capture, bus.clk);
     let cs = scalar_wave(capture, signal);
     let end = capture.end();
-    let lost = lost_ticks(cs, end, false);
+    let lost = lost_ticks(cs, end, Pull::Floating);
     let found = spi_selection_findings(clk, cs, end, &bus.setup);
     [
         lost.of_kind(FindingKind::CsLost),

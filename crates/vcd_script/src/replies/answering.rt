@@ -11,7 +11,7 @@ use crate::replies::decoding::{i2c_text, spi_text, uart_text};
 use crate::replies::listing::listing_text;
 use crate::replies::waves::{changes_text, value_text};
 use crate::replies::{MemoryResult, Reply};
-use crate::script::{Command, parse_line};
+use crate::script::{Command, SpiLines, parse_line};
 use std::alloc::Global;
 use vcd_core::NoMemory;
 use vcd_edit::EditError;
@@ -70,7 +70,15 @@ fn answer_command(
             miso,
             cs,
             setup,
-        } => spi_text(alloc, capture, *clk, *mosi, *miso, *cs, setup).map(Reply::of_text),
+        } => {
+            let lines = SpiLines {
+                clk: *clk,
+                mosi: *mosi,
+                miso: *miso,
+                cs: *cs,
+            };
+            spi_text(alloc, capture, lines, setup).map(Reply::of_text)
+        }
         Command::I2c { scl, sda } => i2c_text(alloc, capture, *scl, *sda).map(Reply::of_text),
     }
 }

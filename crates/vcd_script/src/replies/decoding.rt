@@ -16,6 +16,7 @@ ghost use Rattle.vcd_script.specs.inside.replies.Reply.{with_line_feed};
 
 use crate::replies::MemoryResult;
 use crate::replies::annotations::annotations_to_bytes;
+use crate::script::SpiLines;
 use std::alloc::Global;
 use vcd_core::{Capture, Wave};
 use vcd_decode::{Spi, Uart, i2c, spi, uart};
@@ -45,24 +46,21 @@ pub fn uart_text(
 pub fn spi_text(
     alloc: Global,
     capture: &Capture,
-    clk: usize,
-    mosi: Option<usize>,
-    miso: Option<usize>,
-    cs: Option<usize>,
+    lines: SpiLines,
     setup: &Spi,
 ) -> MemoryResult<Vec<u8>>
     requires sound { IsSound (contents capture.now) }
-    requires clk { IsScalarAt (contents capture.now) clk }
-    requires mosi { IfSome mosi (IsScalarAt (contents capture.now)) }
-    requires miso { IfSome miso (IsScalarAt (contents capture.now)) }
-    requires cs { IfSome cs (IsScalarAt (contents capture.now)) }
-    ensures { IfOk result (λ text. text.items ≡ flat_map with_line_feed
-        (spec.spi_lines (contents capture.now) clk mosi miso cs setup.now)) }
+    requires clk { IsScalarAt (contents capture.now) lines.clk }
+    requires mosi { IfSome lines.mosi (IsScalarAt (contents capture.now)) }
+    requires miso { IfSome lines.miso (IsScalarAt (contents capture.now)) }
+    requires cs { IfSome lines.cs (IsScalarAt (contents capture.now)) }
+    ensures { IfOk result (λ text. text.items ≡ flat_map with_line_feed (spec.spi_lines
+        (contents capture.now) lines.clk lines.mosi lines.miso lines.cs setup.now)) }
 {
-    let clk = scalar_wave(capture, clk);
-    let mosi = wave_or_absent(capture, mosi);
-    let miso = wave_or_absent(capture, miso);
-    let cs = wave_or_absent(capture, cs);
+    let clk = scalar_wave(capture, lines.clk);
+    let mosi = wave_or_absent(capture, lines.mosi);
+    let miso = wave_or_absent(capture, lines.miso);
+    let cs = wave_or_absent(capture, lines.cs);
     let annotations = spi(alloc, clk, mosi, miso, cs, capture.end(), setup)?;
     annotations_to_bytes(alloc, b"spi", nibbles(setup.bits()), annotations.as_slice())
 }

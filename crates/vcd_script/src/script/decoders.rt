@@ -56,10 +56,10 @@ pub fn parse_spi<'a>(words: &mut Words<'a>, capture: &Capture) -> Parsed<'a>
 /// The signals of the clock and of the lines that are there.
 #[derive(Clone, Copy)]
 pub struct SpiLines {
-    clk: usize,
-    mosi: Option<usize>,
-    miso: Option<usize>,
-    cs: Option<usize>,
+    pub clk: usize,
+    pub mosi: Option<usize>,
+    pub miso: Option<usize>,
+    pub cs: Option<usize>,
 }
 
 /// Reads `MODE BITS ORDER` after these lines.

@@ -5,8 +5,7 @@ use crate::fixtures::{check_holds, load_file, text_of};
 use std::alloc::Global;
 use std::process::Abort;
 use std::test::Fail;
-use vcd_core::{Capture, NameWords, NoMemory, SIGNAL_LIMIT, ScopePath, Seq, Signal, Wave, Word};
-use vcd_edit::{Edit, EditError, Rule, apply, check};
+use vcd_edit::{Edit, EditError, apply, check};
 
 const FILE: &str = "\
 $scope module top $end $var wire 1 ! a $end $var wire 4 \" v $end $upscope $end
@@ -78,50 +77,5 @@ fn refused_edits(rt: HostRuntime) -> Result<(), Fail> {
     let capture = load_file(rt.alloc(), FILE.as_bytes())?.capture;
     let word = b"a b".as_slice();
     assert!(rt; check(&capture, &Edit::Rename { signal: 0, word }) == Err(EditError::BadWord));
-    Ok(())
-}
-
-fn word(alloc: Global, text: &[u8]) -> Result<Word, NoMemory> {
-    Ok(Seq::from_vec(text.to_vec(alloc)?))
-}
-
-/// The wire `a`, which is x throughout.
-fn wire(alloc: Global) -> Result<Signal, NoMemory> {
-    let mut words = Vec::new(alloc);
-    words.push(word(alloc, b"a")?)?;
-    Ok(Signal {
-        scopes: ScopePath::from_vec(Vec::new(alloc)),
-        kind: word(alloc, b"wire")?,
-        words: NameWords::new(Seq::from_vec(words)),
-        wave: Wave::new(alloc, 1),
-    })
-}
-
-/// A capture with the most signals allowed.
-fn full_capture(alloc: Global) -> Result<Capture, NoMemory> {
-    let mut signals = Vec::new(alloc);
-    for _ in 0..SIGNAL_LIMIT {
-        signals.push(wire(alloc)?)?;
-    }
-    Ok(Capture::new(Vec::new(alloc), None, 0, signals))
-}
-
-/// Stops unless a signal of this name, derived in a capture, is refused by a fault.
-fn check_derived(rt: &impl Abort, capture: &Capture, word: &[u8], fault: EditError) {
-    let rule = Rule::Not(0);
-    assert!(rt; check(capture, &Edit::Derive { word, rule }) == Err(fault));
-}
-
-#[test]
-fn one_derived_signal_too_many(rt: HostRuntime) -> Result<(), Fail> {
-    let mut capture = full_capture(rt.alloc())?;
-    assert!(rt; capture.is_sound());
-    check_derived(&rt, &capture, b"b", EditError::TooManySignals);
-    check_derived(&rt, &capture, b"a", EditError::NameTaken);
-    let word = b"b".as_slice();
-    let rule = Rule::Not(0);
-    let refused = apply(rt.alloc(), &mut capture, &Edit::Derive { word, rule }).err();
-    assert!(rt; refused == Some(EditError::TooManySignals));
-    assert!(rt; capture.signals().len() == SIGNAL_LIMIT);
     Ok(())
 }

@@ -1,53 +1,57 @@
-//! Readers that fail: after each byte of the worked file, and behind a fault of the file.
+//! Readers that fail, after complete words and within a word, and behind a fault of the file.
 
-use super::check_answer;
+use super::PIECES;
+use crate::fake_devices::{FakeReader, source_of};
+use crate::fixtures::{check_holds, file_of};
 use std::alloc::Global;
 use std::process::Abort;
 use std::test::Fail;
+use vcd_text::read;
 
-/// The worked file with one scalar.
-const ONE_SCALAR: &str = "$timescale 1ns $end
-$scope module top $end
-$var wire 1 ! a $end
-$upscope $end
-$enddefinitions $end
-#0
-$dumpvars
-0!
-$end
-#5
-1!
-#9
-";
+/// The line, the fault, and the bytes that a reader gives before it fails. The answer is a fault in
+/// the complete words, if there is one.
+const READERS_THAT_FAIL: &str = "\
+1 ReadFault:
+4 ReadFault:$var wire 1 ! a $end|$enddefinitions $end|#10|
+4 ReadFault:$var wire 1 ! a $end|$enddefinitions $end|#10|#9
+4 TimeBackwards:$var wire 1 ! a $end|$enddefinitions $end|#10|#9|
+4 TimeBackwards:$var wire 1 ! a $end|$enddefinitions $end|#10|#9\x20
+3 ReadFault:$var wire 1 ! a $end $enddefinitions $end|b2|!
+2 BadChange:$var wire 1 ! a $end $enddefinitions $end|b2|!|
+1 ReadFault:$var wire 1 ! a $end $enddefinitions $end 1\"
+1 UnknownCode:$var wire 1 ! a $end $enddefinitions $end 1\"|
+2 ReadFault:$enddefinitions $end b1|
+1 ReadFault:x
+1 UnexpectedWord:x\t
+1 ReadFault:$upscope
+1 UpscopeAtTop:$upscope|
+1 BadVar:$var wire x\x0b
+4 ReadFault:||$comment|";
 
-/// The first bytes of the file.
-fn first_bytes(len: usize) -> Result<&'static [u8], Fail> {
-    Ok(ONE_SCALAR.as_bytes().get(..len).ok_or("past the end")?)
-}
-
-/// No complete word of the file has a fault, so the answer is the reader's own, at the line
-/// reached.
-fn check_failure(rt: &impl Abort, alloc: Global, len: usize) -> Result<(), Fail> {
-    let bytes = first_bytes(len)?;
-    let line = bytes.split(|byte| *byte == b'\n').count();
-    let answer = format!(in alloc; "{line} ReadFault")?;
-    check_answer(rt, alloc, bytes, true, answer.as_str())
-}
-
-#[test]
-fn of_a_reader_that_fails(rt: HostRuntime) -> Result<(), Fail> {
-    for len in 0..=ONE_SCALAR.len() {
-        check_failure(&rt, rt.alloc(), len)?;
-    }
+/// Stops unless a reader of such pieces that fails behind a file has this answer.
+fn check_answer(
+    rt: &impl Abort,
+    alloc: Global,
+    file: &[u8],
+    piece: usize,
+    answer: &str,
+) -> Result<(), Fail> {
+    let mut reader = FakeReader::new(file, piece);
+    reader.fails_at_end = true;
+    let error = read(alloc, &mut source_of(reader)).err().ok_or("read")?;
+    let found = format!(in alloc; "{} {}", error.line, error.name())?;
+    check_holds(rt, found.as_str() == answer, answer);
     Ok(())
 }
 
-/// Words that are complete before the reader fails are taken first, so a fault in them is the
-/// answer.
 #[test]
-fn of_a_reader_that_fails_behind_a_fault(rt: HostRuntime) -> Result<(), Fail> {
-    let file = b"$var wire 1 ! a $end\n$enddefinitions $end\n#10\n#9\n";
-    let first_lines = &file[..file.len() - 3];
-    check_answer(&rt, rt.alloc(), first_lines, true, "4 ReadFault")?;
-    check_answer(&rt, rt.alloc(), file, true, "4 TimeBackwards")
+fn of_readers_that_fail(rt: HostRuntime) -> Result<(), Fail> {
+    for row in READERS_THAT_FAIL.lines() {
+        let (answer, text) = row.split_once(':').ok_or("no answer")?;
+        let file = file_of(rt.alloc(), text)?;
+        for piece in PIECES {
+            check_answer(&rt, rt.alloc(), file.as_slice(), piece, answer)?;
+        }
+    }
+    Ok(())
 }

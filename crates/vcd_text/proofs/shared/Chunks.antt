@@ -200,7 +200,7 @@ nothing_taken limit most asked m word none small reads = record {
 pub consumes_none : (coming : Option (List ℕ)) → Consumes coming coming []
 consumes_none coming = grind arith
 
-no_bytes : (xs : List ℕ) → length xs ≤ 0 → [] ≡ xs
+pub no_bytes : (xs : List ℕ) → length xs ≤ 0 → [] ≡ xs
 no_bytes [] few = refl
 no_bytes (x ∷ xs) few = absurd (omega (arith, few))
 

@@ -1,6 +1,6 @@
 -- The digits of a code. Codes of two positions differ, and each is a word of at most three bytes.
 use Rattle.std.proofs.Common.{◌≡◌, ◌<◌, ◌-◌, ◌++◌, ℕ, zero, suc, ◌+◌, ◌/◌, ◌%◌, ◌≤◌, [], ◌∷◌, refl, ap, arith, ◌&&◌}
-use Rattle.std.proofs.Common.{Bool, true, false, not, length, nat_le, ◌*◌, add-one}
+use Rattle.std.proofs.Common.{Bool, true, false, not, length, nat_le, ◌*◌, add-one, ap₂, ◌∙◌}
 use Rattle.std.specs.List.{list_all}
 use Rattle.std.proofs.lemmas.Bool.{and_from, and_parts, and_right, or_from, not_from_false, false_from_ne_true, le-leb}
 use Rattle.std.proofs.lemmas.Bool.{lt-leb, leb-true, ne_eqb}
@@ -36,6 +36,13 @@ lowest_digit (suc n) above = grind (arith, next_digit)
 pub no_digits : (n : ℕ) → n ≤ 0 → code_digits n n ≡ []
 unfolding code_digits
 no_digits n none = grind arith
+
+pub last_digit : (n : ℕ) → 0 < n → n ≤ 94 → code_digits n n ≡ ((33 + (n - 1)) ∷ []) ++ []
+unfolding code_digits
+last_digit n above few =
+    let digit : (n - 1) % 94 ≡ n - 1 = omega arith in
+    let none : (n - 1) / 94 ≡ 0 = omega arith in
+    lowest_digit n above ∙ ap₂ (λ d rest. ((33 + d) ∷ []) ++ code_digits rest rest) digit none
 
 -- ==== codes of two positions differ, and a code is a word of at most three bytes
 

@@ -35,7 +35,7 @@ complete_in_file prefix rest =
       words_by_bytes (prefix ++ rest) ∙ further.1 ∙ ap (λ ws. ws ++ further.0) (sym (complete_by_bytes prefix)),
     )
 
-complete_in_longer : (prefix rest : List ℕ) → IsPrefix (complete_words prefix) (complete_words (prefix ++ rest))
+pub complete_in_longer : (prefix rest : List ℕ) → IsPrefix (complete_words prefix) (complete_words (prefix ++ rest))
 complete_in_longer prefix rest =
     let further = complete_in_prefix false [] 1 prefix rest in (
       further.0,

@@ -49,11 +49,11 @@ not_none xs x ys e = absurd (omega (arith, ap length e, length-append xs (x ∷ 
 -- ---- words that no whole item begins
 
 -- no item whose conditions hold begins these words
-abbrev BeginsNone : ParseState → List (List ℕ) → Type 0
+abbrev pub BeginsNone : ParseState → List (List ℕ) → Type 0
 BeginsNone c words = (i : Item) (rest : List (List ℕ)) → Allows c i → words ≡ spelling i ++ rest → ⊥
 
 -- an item that goes on after these words has no whole item in front
-goes_past : (c : ParseState) (begun : List (List ℕ)) (next : List ℕ) (j : Item) (rest : List (List ℕ))
+pub goes_past : (c : ParseState) (begun : List (List ℕ)) (next : List ℕ) (j : Item) (rest : List (List ℕ))
     → GoesOn c begun next → IsTrue (fits c j) → begun ≡ spelling j ++ rest → ⊥
 goes_past c begun next j rest (i, more, f, e) fit is =
     let all : spelling i ++ [] ≡ spelling j ++ (rest ++ next ∷ more) = grind (arith, append-nil, append_assoc) in

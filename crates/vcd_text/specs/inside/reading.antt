@@ -9,9 +9,12 @@ pub mod CodeTargets
 pub mod Scopes
 pub mod Parser
 pub mod OpenItems
+pub mod ChangeListener
 pub mod Declarations
 pub mod FileReader
+pub mod ChangeStream
 pub mod ReadBuffer
+pub mod HeardChanges
 pub mod DigitBlocks
 pub mod BinaryNumber
 pub mod Timescale

@@ -1,9 +1,9 @@
 //! A file in chunks: the complete words of each chunk are taken before the next read.
 
-ghost use Rattle.std.specs.Prelude.{◌≡◌, ◌∷◌, ◌<◌, ◌≤◌, ◌^◌, ℕ, true, false, not, List, []};
-ghost use Rattle.std.specs.Prelude.{length, map, take, drop, Option, IfOk, IfErr, IfSome, OnOk};
+ghost use Rattle.std.specs.Prelude.{◌≡◌, ◌∷◌, ◌++◌, ◌<◌, ◌≤◌, ◌^◌, ℕ, true, false, not, List};
+ghost use Rattle.std.specs.Prelude.{[], length, map, take, drop, Option, IfOk, IfErr, IfSome, OnOk};
 ghost use Rattle.std.specs.List.{list_all};
-ghost use Rattle.std.specs.Io.KnownBytes.{IsAtEnd};
+ghost use Rattle.std.specs.Io.KnownBytes.{Consumes, IsAtEnd};
 ghost use Rattle.vcd_core.specs.Word as spec;
 ghost use Rattle.vcd_text.specs.Words.{word_on, WordOnLine as WordInFile};
 ghost use Rattle.vcd_text.specs.Grammar.{ParseState, kept_variables};
@@ -103,11 +103,11 @@ impl FileReader {
         requires matches { (limit : ℕ) × (most : ℕ) × (start : L) × (coming : Option (List ℕ))
             × FileReaderMatches L.Listener limit most start coming (R.coming source.old)
             listener.old self.old }
-        ensures taken { OnOk result ((limit most : ℕ) (start : L) (coming : Option (List ℕ)) →
-            FileReaderMatches L.Listener limit most start coming (R.coming source.old)
-            listener.old self.old →
-            FileReaderMatches L.Listener limit most start coming (R.coming source.new)
-            listener.new self.new) }
+        ensures taken { OnOk result ((limit most : ℕ) (start : L) (coming : Option (List ℕ))
+            (bytes : List ℕ) → Consumes coming (R.coming source.old) bytes →
+            HasHeardBytes L.Listener limit most start listener.old self.old bytes →
+            (chunk : List ℕ) × Consumes coming (R.coming source.new) (bytes ++ chunk)
+            × HasHeardBytes L.Listener limit most start listener.new self.new (bytes ++ chunk)) }
         ensures goes_on { (start : L) → L.goes_on start listener.old →
             L.goes_on start listener.new }
         ensures not_failed { OnOk result (R.has_failed source.new ≡ false) }

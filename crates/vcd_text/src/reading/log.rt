@@ -47,7 +47,29 @@ pub fn append(
 {
     let index = change.position % GROUPS;
     add_groups(groups, alloc, index + 1)?;
-    groups[index].push(change)?;
+    push_logged(&mut groups[index], change)?;
+    Ok(())
+}
+
+/// Appends a change to a group.
+#[inline(always)]
+fn push_logged(group: &mut Vec<LoggedChange>, change: LoggedChange) -> Result<(), NoMemory>
+    ensures { OnOk result (group.new.items ≡ group.old.items ++ change ∷ []) }
+{
+    if group.len() < group.capacity() {
+        group.push_reserved(change);
+        return Ok(());
+    }
+    push_into_full(group, change)
+}
+
+/// Does what [`push_logged`] does, with more room.
+#[cold]
+#[inline(never)]
+fn push_into_full(group: &mut Vec<LoggedChange>, change: LoggedChange) -> Result<(), NoMemory>
+    ensures { OnOk result (group.new.items ≡ group.old.items ++ change ∷ []) }
+{
+    group.push(change)?;
     Ok(())
 }
 

@@ -146,8 +146,11 @@ impl Parser {
         requires no_end { ends_definitions self.old text.now ≡ false }
         ensures { WordResult self.old (word_on text.now line) result self.new }
     {
+        // tested first, as nearly all words are between changes
+        if self.in_body && self.item == OpenItem::Nothing {
+            return self.take_body_word(alloc, text, line);
+        }
         match self.item {
-            OpenItem::Nothing if self.in_body => self.take_body_word(alloc, text, line),
             OpenItem::Nothing => self.begin_declaration(text),
             OpenItem::Vector => self.take_vector_code(alloc, text),
             OpenItem::RealOrString => self.take_real_or_string_code(text),

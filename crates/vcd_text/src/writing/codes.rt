@@ -21,9 +21,11 @@ pub fn write_code<W: Sink>(output: &mut Output<W>, position: usize)
     ensures { Emits W.Sink output.old output.new (code_of position) }
 {
     let mut left = position + 1;
-    while left > 0 {
+    while left > COUNT {
         let digit = left - 1;
         write_byte(output, FIRST + (digit % COUNT) as u8);
         left = digit / COUNT;
     }
+    // the last digit needs no division
+    write_byte(output, FIRST + (left - 1) as u8);
 }

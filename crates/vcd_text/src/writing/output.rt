@@ -43,12 +43,7 @@ pub fn write_bytes<W: Sink>(output: &mut Output<W>, bytes: &[u8])
         let _ = output.unsent.extend_from_slice(bytes);
         return;
     }
-    send_buffer(output);
-    if has_room_for(&output.unsent, bytes.len()) {
-        let _ = output.unsent.extend_from_slice(bytes);
-        return;
-    }
-    send_directly(output, bytes);
+    write_after_sending(output, bytes);
 }
 
 /// Appends a byte to the text.
@@ -62,7 +57,22 @@ pub fn write_byte<W: Sink>(output: &mut Output<W>, byte: u8)
         output.unsent.push_reserved(byte);
         return;
     }
-    write_bytes(output, &[byte]);
+    write_after_sending(output, &[byte]);
+}
+
+/// Sends the buffer, and then appends bytes to the text.
+#[cold]
+#[inline(never)]
+fn write_after_sending<W: Sink>(output: &mut Output<W>, bytes: &[u8])
+    ensures written { Emits W.Sink output.old output.new bytes.now }
+    ensures room { vec_capacity output.old.unsent ≤ vec_capacity output.new.unsent }
+{
+    send_buffer(output);
+    if has_room_for(&output.unsent, bytes.len()) {
+        let _ = output.unsent.extend_from_slice(bytes);
+        return;
+    }
+    send_directly(output, bytes);
 }
 
 /// Whether there is room for `count` more bytes.

@@ -123,9 +123,18 @@ fn prefetch_changes(signals: &[Signal], start_cursors: &mut [Cursor], keys: &[u6
     requires start_cursors { length start_cursors.old ≡ length signals.now }
     ensures { length start_cursors.new ≡ length start_cursors.old }
 {
-    if index % PREFETCH_COUNT != 0 {
-        return;
+    if index % PREFETCH_COUNT == 0 {
+        read_ticks(signals, start_cursors, keys, index);
     }
+}
+
+/// Reads the ticks of the changes of the next `PREFETCH_COUNT` keys.
+#[inline(never)]
+fn read_ticks(signals: &[Signal], start_cursors: &mut [Cursor], keys: &[u64], index: usize)
+    requires keys { All (λ key. key % POSITIONS < length signals.now) keys.now }
+    requires start_cursors { length start_cursors.old ≡ length signals.now }
+    ensures { length start_cursors.new ≡ length start_cursors.old }
+{
     for k in index..keys.len().min(index.saturating_add(PREFETCH_COUNT)) {
         let position = (keys[k] % POSITIONS) as usize;
         let changes = signals[position].wave.changes();

@@ -6,7 +6,7 @@ use Rattle.clap.specs.Words.{Text, first_of, first_value, found_of, matches_of, 
 use Rattle.clap.specs.Words.{rows_of}
 use Rattle.clap.specs.declared.parser.matches.ArgMatches.{ArgMatches}
 use Rattle.clap.proofs.WalkLemmas.{first_value-rows, one_text-rows}
-use Rattle.vcd_shell.specs.Options.{depth_asked}
+use Rattle.vcd_script_shell.specs.ScriptOptions.{depth_asked}
 use Rattle.vcdedit.specs.CommandLine.{asked_options, option_app, options_in}
 
 -- the options that the getters read

@@ -15,6 +15,7 @@ returns c =
     let five = c.in_ok-arg-5.ensures.shape c.flag-2.ensures.local ∙ ap₂ with_rule four c.flag-2.ensures.rule in
     let six = c.in_ok-arg-6.ensures.shape c.depth_option.ensures.local
     ∙ ap₂ with_rule five c.depth_option.ensures.rule in
-    let seven = c.in_ok-arg-7.ensures.shape c.flag-3.ensures.local ∙ ap₂ with_rule six c.flag-3.ensures.rule in
+    let seven = c.in_ok-arg-7.ensures.shape c.quiet_option.ensures.local
+    ∙ ap₂ with_rule six c.quiet_option.ensures.rule in
     IfOk-weaker c.arg-8.result _ _ (λ d added. added.shape c.capture_argument.ensures.local
     ∙ ap₂ with_rule seven c.capture_argument.ensures.rule) c.arg-8.ensures

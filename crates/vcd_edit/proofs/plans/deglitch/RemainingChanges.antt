@@ -29,7 +29,7 @@ use Rattle.vcd_edit.specs.Effect.{steady_value}
 use Rattle.vcd_edit.specs.inside.plans.Plan.{GivesValues}
 use Rattle.vcd_edit.specs.Records.{piece_view}
 use Rattle.vcd_edit.proofs.shared.Lists.{drop_here, take_here}
-use Rattle.vcd_edit.proofs.plans.Runs.{steady_are}
+use Rattle.vcd_edit.proofs.shared.Runs.{steady_are}
 use Rattle.vcd_edit.proofs.shared.TouchedChanges.{stay_fit}
 
 -- ==== the changes that remain when short runs of one value are taken out, change by change

@@ -33,6 +33,8 @@ use Rattle.vcd_edit.specs.Operators.{not_bit, operator_bit}
 use Rattle.vcd_edit.specs.inside.plans.RemainingChanges.{TicksRise}
 use Rattle.vcd_edit.specs.inside.plans.Ranges.{value_just_before}
 use Rattle.vcd_edit.specs.inside.plans.Derive.{edge_bit, edge_change, HasBits, selected_bit, selected_change}
+use Rattle.vcd_edit.specs.declared.plans.derive.Polarity.{Polarity}
+use Rattle.vcd_edit.specs.declared.plans.derive.Polarity.TheVariants.{AsIs, Negated}
 use Rattle.vcd_edit.specs.inside.plans.Derive.{DerivedSoFar, HasBitsUpTo}
 use Rattle.vcd_edit.specs.declared.edit.Edit.TheVariants.{Derive}
 use Rattle.vcd_edit.specs.declared.edit.Rule.{Rule}
@@ -45,7 +47,7 @@ use Rattle.vcd_edit.specs.Touched.{puts_in}
 use Rattle.vcd_edit.specs.Records.{piece_view}
 use Rattle.vcd_edit.specs.inside.plans.Plan.{IsPlan}
 use Rattle.vcd_edit.proofs.shared.Lists.{drop_here}
-use Rattle.vcd_edit.proofs.plans.WithoutRepeats.{rise_lower, early_value, wave_rises, mapped_upto, mapped_value}
+use Rattle.vcd_edit.proofs.shared.WithoutRepeats.{rise_lower, early_value, wave_rises, mapped_upto, mapped_value}
 use Rattle.vcd_edit.proofs.exchange.ExchangedRecords.{parts}
 use Rattle.vcd_edit.proofs.plans.EffectOfRecord.{plan_without_pieces}
 
@@ -242,15 +244,15 @@ module _ (operator : Operator) (a b : WaveView) where
 
 -- ---- the changes of one wave
 
-selected_x : (k : ℕ) (negated : Bool) (width : ℕ) → selected_bit k negated (all_x width) ≡ X
-selected_x k true width = ap not_bit (x_letter_at width k)
-selected_x k false width = x_letter_at width k
+selected_x : (k : ℕ) (polarity : Polarity) (width : ℕ) → selected_bit k polarity (all_x width) ≡ X
+selected_x k Negated width = ap not_bit (x_letter_at width k)
+selected_x k AsIs width = x_letter_at width k
 
-selected_rise : (k : ℕ) (negated : Bool) (width floor : ℕ) (cs : List Change) → TicksRise width floor cs
-    → TicksRise 1 floor (map (selected_change k negated) cs)
-selected_rise k negated width floor [] rise = tt
-selected_rise k negated width floor (c ∷ cs) (from, wide, rest) =
-    (from, refl, selected_rise k negated width (c.tick + 1) cs rest)
+selected_rise : (k : ℕ) (polarity : Polarity) (width floor : ℕ) (cs : List Change) → TicksRise width floor cs
+    → TicksRise 1 floor (map (selected_change k polarity) cs)
+selected_rise k polarity width floor [] rise = tt
+selected_rise k polarity width floor (c ∷ cs) (from, wide, rest) =
+    (from, refl, selected_rise k polarity width (c.tick + 1) cs rest)
 
 -- each value of a wave has its width
 pub width_at : (width floor : ℕ) (cs : List Change) (i : ℕ) (c : Change) → TicksRise width floor cs → i < length cs
@@ -261,36 +263,37 @@ width_at width floor (d ∷ cs) (suc i) c (from, wide, rest) within at =
     width_at width (d.tick + 1) cs i c rest (omega (arith, within)) at
 
 -- nothing is made of the changes
-pub no_change_made : (k : ℕ) (negated : Bool) (a w : WaveView) → IsWave a.width a.changes → w.width ≡ 1 → w.changes ≡ []
-    → DerivedSoFar (map (selected_change k negated) a.changes) (map (selected_change k negated) a.changes) w
-no_change_made k negated a w is width none = none_made (map (selected_change k negated) a.changes) w width none
-    (selected_rise k negated a.width 0 a.changes
+pub no_change_made : (k : ℕ) (polarity : Polarity) (a w : WaveView) → IsWave a.width a.changes → w.width ≡ 1
+    → w.changes ≡ []
+    → DerivedSoFar (map (selected_change k polarity) a.changes) (map (selected_change k polarity) a.changes) w
+no_change_made k polarity a w is width none = none_made (map (selected_change k polarity) a.changes) w width none
+    (selected_rise k polarity a.width 0 a.changes
     (wave_rises a.width 0 (all_x a.width) a.changes (length-replicate a.width X) is.rise))
 
 -- the next change of the wave
-pub change_next : (k : ℕ) (negated : Bool) (cs : List Change) (i : ℕ) (c : Change) (value : List Bit)
-    → i < length cs → c ≡ get_or cs i c → value ≡ selected_bit k negated c.value ∷ []
-    → map (selected_change k negated) (drop i cs)
-    ≡ change c.tick value ∷ map (selected_change k negated) (drop (i + 1) cs)
-change_next k negated cs i c value within at is =
-    ap (map (selected_change k negated)) (drop_here cs i c within at)
-    ∙ ap (λ v. change c.tick v ∷ map (selected_change k negated) (drop (i + 1) cs)) (sym is)
+pub change_next : (k : ℕ) (polarity : Polarity) (cs : List Change) (i : ℕ) (c : Change) (value : List Bit)
+    → i < length cs → c ≡ get_or cs i c → value ≡ selected_bit k polarity c.value ∷ []
+    → map (selected_change k polarity) (drop i cs)
+    ≡ change c.tick value ∷ map (selected_change k polarity) (drop (i + 1) cs)
+change_next k polarity cs i c value within at is =
+    ap (map (selected_change k polarity)) (drop_here cs i c within at)
+    ∙ ap (λ v. change c.tick v ∷ map (selected_change k polarity) (drop (i + 1) cs)) (sym is)
 
 -- the wave from the changes of one wave has its bit at each tick
-pub selected_is : (k : ℕ) (negated : Bool) (a : WaveView) (end i : ℕ) (w : WaveView) → AllUpTo end a.changes
+pub selected_is : (k : ℕ) (polarity : Polarity) (a : WaveView) (end i : ℕ) (w : WaveView) → AllUpTo end a.changes
     → length a.changes ≤ i
-    → DerivedSoFar (map (selected_change k negated) a.changes) (map (selected_change k negated) (drop i a.changes)) w
+    → DerivedSoFar (map (selected_change k polarity) a.changes) (map (selected_change k polarity) (drop i a.changes)) w
     → IsWave w.width w.changes
-    → w.changes ≡ changes_of 1 end (λ t. selected_bit k negated (value_at a.width a.changes t) ∷ [])
-selected_is k negated a end i w upto done made form =
-    let h : List Bit → List Bit = λ v. selected_bit k negated v ∷ [] in
-    made_is (map (selected_change k negated) a.changes) w end (λ t. h (value_at a.width a.changes t))
-    (subst (λ (l : List Change). DerivedSoFar (map (selected_change k negated) a.changes)
-    (map (selected_change k negated) l) w)
+    → w.changes ≡ changes_of 1 end (λ t. selected_bit k polarity (value_at a.width a.changes t) ∷ [])
+selected_is k polarity a end i w upto done made form =
+    let h : List Bit → List Bit = λ v. selected_bit k polarity v ∷ [] in
+    made_is (map (selected_change k polarity) a.changes) w end (λ t. h (value_at a.width a.changes t))
+    (subst (λ (l : List Change). DerivedSoFar (map (selected_change k polarity) a.changes)
+    (map (selected_change k polarity) l) w)
     (drop_all i a.changes done) made)
     form (mapped_upto end h a.changes upto)
-    (λ t to. ap (λ (x : Bit). value_from (x ∷ []) (map (selected_change k negated) a.changes) t)
-    (sym (selected_x k negated a.width)) ∙ mapped_value h (all_x a.width) a.changes t)
+    (λ t to. ap (λ (x : Bit). value_from (x ∷ []) (map (selected_change k polarity) a.changes) t)
+    (sym (selected_x k polarity a.width)) ∙ mapped_value h (all_x a.width) a.changes t)
 
 -- ==== a derived signal from its parts, and the record that puts it in
 

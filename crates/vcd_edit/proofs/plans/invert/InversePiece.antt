@@ -12,6 +12,7 @@ use Rattle.vcd_core.specs.declared.letter_block.LetterBlock.{LetterBlock}
 use Rattle.vcd_core.specs.Value.{letter_at, all_x, same_letters}
 use Rattle.vcd_core.specs.BlockRows.{letter_of, letter_in, letter_or, block_at, letters_of, HoldsLetters}
 use Rattle.vcd_core.proofs.shared.LettersOfPlanes.{same_letter_at, length-letters_of, letter_at-letters_of}
+use Rattle.vcd_core.proofs.shared.LettersOfPlanes.{one_block}
 use Rattle.vcd_core.specs.declared.wave.Change.{Change}
 use Rattle.vcd_core.specs.Wave.{change, unless_same, value_from, changes_of, IsWave, AllUpTo}
 use Rattle.vcd_core.specs.Contents.{SignalContents}
@@ -20,7 +21,8 @@ use Rattle.vcd_edit.specs.inside.plans.Invert.{ShowsInverse}
 use Rattle.vcd_edit.specs.Effect.{inverse_value}
 use Rattle.vcd_edit.specs.inside.plans.RemainingChanges.{without_repeats, mapped_change}
 use Rattle.vcd_edit.proofs.shared.Lists.{drop_here}
-use Rattle.vcd_edit.proofs.plans.WithoutRepeats.{without_repeats_is, wave_rises, mapped_rise, mapped_upto, mapped_value}
+use Rattle.vcd_edit.proofs.shared.WithoutRepeats.{without_repeats_is, wave_rises, mapped_rise, mapped_upto}
+use Rattle.vcd_edit.proofs.shared.WithoutRepeats.{mapped_value}
 
 -- ==== the blocks of the inverse of a value, and the letters that they show
 
@@ -78,6 +80,23 @@ inverse_letters value blocks shows =
     same_letter_at _ _ (length-letters_of (length value) blocks ∙ sym (length-map value not_bit)) (λ k below.
     let within : k < length value = omega (arith, length-letters_of (length value) blocks) in
     letter_at-letters_of (length value) blocks k within ∙ shows k within within ∙ sym (letter_at-map value k within))
+
+-- and so has one block
+one_block_shows : (width : ℕ) (block inverse : LetterBlock) → width ≤ 64
+    → ((i : ℕ) → i < 64 → letter_in inverse i ≡ not_bit (letter_in block i))
+    → ShowsInverse (length (letters_of width (block ∷ []))) (letters_of width (block ∷ [])) (inverse ∷ [])
+unfolding ShowsInverse
+one_block_shows width block inverse most negated = λ k below within.
+    let inside : k < width = omega (arith, length-letters_of width (block ∷ []), below) in
+    one_block inverse k (omega arith) ∙ negated k (omega arith)
+    ∙ ap not_bit (sym (letter_at-letters_of width (block ∷ []) k inside ∙ one_block block k (omega arith)))
+
+pub inverse_block_letters : (width : ℕ) (block inverse : LetterBlock) → width ≤ 64
+    → ((i : ℕ) → i < 64 → letter_in inverse i ≡ not_bit (letter_in block i))
+    → letters_of width (inverse ∷ []) ≡ map not_bit (letters_of width (block ∷ []))
+inverse_block_letters width block inverse most negated =
+    ap (λ n. letters_of n (inverse ∷ [])) (sym (length-letters_of width (block ∷ [])))
+    ∙ inverse_letters (letters_of width (block ∷ [])) (inverse ∷ []) (one_block_shows width block inverse most negated)
 
 -- ==== the piece of a signal with each bit negated
 

@@ -1,5 +1,5 @@
 -- How a derived signal is made from the changes of its operands.
-use Rattle.std.specs.Prelude.{◌≡◌, ℕ, ◌<◌, ◌≤◌, Bool, if◌then◌else◌, List, [], ◌∷◌, Option, Some}
+use Rattle.std.specs.Prelude.{◌≡◌, ℕ, ◌<◌, ◌≤◌, List, [], ◌∷◌, Option, Some}
 use Rattle.std.specs.Prelude.{None, All, length}
 use Rattle.vcd_core.specs.declared.bit.Bit.{Bit}
 use Rattle.vcd_core.specs.declared.bit.Bit.TheVariants.{X}
@@ -13,15 +13,18 @@ use Rattle.vcd_edit.specs.declared.edit.Operator.{Operator}
 use Rattle.vcd_edit.specs.declared.edit.Formula.{Formula}
 use Rattle.vcd_edit.specs.declared.edit.Formula.TheVariants.{Negation, Pair, BitSelect}
 use Rattle.vcd_edit.specs.Operators.{not_bit, operator_bit}
+use Rattle.vcd_edit.specs.declared.plans.derive.Polarity.{Polarity}
+use Rattle.vcd_edit.specs.declared.plans.derive.Polarity.TheVariants.{AsIs, Negated}
 use Rattle.vcd_edit.specs.inside.plans.RemainingChanges.{TicksRise}
 
 -- bit k of a value, negated or as it is
-abbrev pub selected_bit : ℕ → (negated : Bool) → List Bit → Bit
-selected_bit k negated v = if negated then not_bit (letter_at v k) else letter_at v k
+abbrev pub selected_bit : ℕ → Polarity → List Bit → Bit
+selected_bit k AsIs v = letter_at v k
+selected_bit k Negated v = not_bit (letter_at v k)
 
 -- the change of the derived signal at a change of its one operand
-abbrev pub selected_change : ℕ → Bool → Change → Change
-selected_change k negated c = change c.tick (selected_bit k negated c.value ∷ [])
+abbrev pub selected_change : ℕ → Polarity → Change → Change
+selected_change k polarity c = change c.tick (selected_bit k polarity c.value ∷ [])
 
 -- an edge has the bits of two waves
 abbrev pub HasBits : BitEdge → Type 0

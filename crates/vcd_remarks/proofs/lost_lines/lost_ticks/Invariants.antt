@@ -7,5 +7,5 @@ use Rattle.vcd_remarks.proofs.lost_lines.lost_ticks.Given as goal
 
 -- the ticks of the edges so far are found
 abbrev pub invariant-loop-edge : goal.invariant-loop-edge
-invariant-loop-edge l = FoundSoFar l.found (edge_ticks (loses_line l.fn.z_is_one) l.edge-iterator)
-    (ticks_where (becomes_lost l.fn.z_is_one (line_of l.fn.wave)) l.fn.end)
+invariant-loop-edge l = FoundSoFar l.found (edge_ticks (loses_line l.fn.pull) l.edge-iterator)
+    (ticks_where (becomes_lost l.fn.pull (line_of l.fn.wave)) l.fn.end)

@@ -20,5 +20,5 @@ returns g c =
     let kinds = ap (fault_of g.P.Program.options) all in (
       kind_of c.in-Err.error,
       subst (λ (k : Kinds). HasKind k c.in-Err.error) kinds c.in-Err.ensures.faults,
-      c.answer_error.ensures,
+      c.answer_shown.ensures,
     )

@@ -18,7 +18,7 @@ declared_by c [] = omega arith
 declared_by c (i ∷ is) = omega (arith, declared_by (state_after_item c i) is, declared_more c i)
 
 -- an item has a word
-has_words : (i : Item) → 0 < length (spelling i)
+pub has_words : (i : Item) → 0 < length (spelling i)
 has_words i = grind arith
 
 -- items have at least as many words as there are items

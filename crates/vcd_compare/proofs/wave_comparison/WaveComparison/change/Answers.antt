@@ -1,4 +1,4 @@
-use Rattle.std.proofs.Common.{◌≡◌, ℕ, Bool, true, false, not, Option, Some, None, refl, sym, ap, ◌∙◌, ◌++◌}
+use Rattle.std.proofs.Common.{◌≡◌, ℕ, Bool, true, false, not, Option, Some, None, refl, sym, ap, ◌∙◌, ◌++◌, arith}
 use Rattle.std.specs.Option.{is_some}
 use Rattle.std.proofs.lemmas.Bool.{both_ways}
 use Rattle.vcd_compare.specs.Differences.{WaveByTicks, summary}
@@ -27,7 +27,7 @@ returns-then-eq g c tolerance wave other first t later is keep_a keep_b is_a is_
     step_same same tolerance wave other first t c.args.tick old _ later is keep_a keep_b
     ((λ i. same (sym is_a i) (sym is_b i)) ∙ sym c.eq.ensures ∙ c.if-eq.true)
     c.end_difference.ensures.tolerance c.end_difference.ensures.open (ap Some is_a)
-    (λ before was. c.end_difference.ensures.found before was
+    (λ before few was. c.end_difference.ensures.found before (omega (arith, c.ranges.tick)) was
     ∙ ap (λ v. summary (before ++ standing_end same old.tolerance old.open_difference c.args.tick v)) is_a)
 
 pub returns-then-is_none : goal.returns-then-is_none

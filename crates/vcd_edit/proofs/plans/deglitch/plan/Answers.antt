@@ -10,7 +10,7 @@ use Rattle.vcd_edit.specs.declared.edit.Edit.TheVariants.{Deglitch}
 use Rattle.vcd_edit.specs.Effect.{steady_value}
 use Rattle.vcd_edit.proofs.checking.Faults.{no_fault}
 use Rattle.vcd_edit.proofs.plans.EffectOfRecord.{wave_plan, nothing_plan}
-use Rattle.vcd_edit.proofs.plans.Runs.{steady_are, deglitch_is_wave}
+use Rattle.vcd_edit.proofs.shared.Runs.{steady_are, deglitch_is_wave}
 use Rattle.vcd_edit.proofs.plans.deglitch.RemainingChanges.{none_left_out, deglitch_gives}
 use Rattle.vcd_edit.proofs.plans.deglitch.plan.Goals as goal
 

@@ -10,10 +10,11 @@ pub returns-then-to-end : goal.returns-then-to-end
 returns-then-to-end c =
     let p : PieceView = piece_view c.piece_between.result in
     let s : SignalContents = signal_contents c.args.signal.now in
+    let f = c.args.forced.now in
     record {
       signal = ap (λ (q : PieceView). q.signal) c.piece_between.ensures;
       offset = ap (λ (q : PieceView). q.by) c.piece_between.ensures;
-      leads = force_to_end c.args.from c.args.to c.args.value s c.args.end c.requires.sound.wave c.requires.sound.ticks
+      leads = force_to_end f.from f.to f.value s c.args.end c.requires.sound.wave c.requires.sound.ticks
           c.requires.end c.requires.not_empty p
           (ap (λ (q : PieceView). q.from) c.piece_between.ensures)
           (ap (λ (q : PieceView). q.by) c.piece_between.ensures)
@@ -30,10 +31,11 @@ pub returns : goal.returns
 returns c =
     let p : PieceView = piece_view c.piece_between-2.result in
     let s : SignalContents = signal_contents c.args.signal.now in
+    let f = c.args.forced.now in
     record {
       signal = ap (λ (q : PieceView). q.signal) c.piece_between-2.ensures;
       offset = ap (λ (q : PieceView). q.by) c.piece_between-2.ensures;
-      leads = force_before_end c.args.from c.args.to c.args.value s c.args.end c.requires.sound.wave
+      leads = force_before_end f.from f.to f.value s c.args.end c.requires.sound.wave
           c.requires.sound.ticks c.requires.end c.requires.not_empty p
           (ap (λ (q : PieceView). q.from) c.piece_between-2.ensures)
           (ap (λ (q : PieceView). q.by) c.piece_between-2.ensures)

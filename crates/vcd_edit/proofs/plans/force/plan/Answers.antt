@@ -8,24 +8,27 @@ use Rattle.vcd_edit.proofs.plans.force.plan.Goals as goal
 
 pub signal_at-old-requires-clause-position_exists : goal.signal_at-old-requires-clause-position_exists
 signal_at-old-requires-clause-position_exists c =
-    (no_fault (Force c.args.position c.args.from c.args.to c.args.value) (contents c.args.capture.now)
-    c.requires.allowed).0
+    let f = c.args.forced.now in
+    (no_fault (Force c.args.position f.from f.to f.value) (contents c.args.capture.now) c.requires.allowed).0
 
 pub force_piece-requires-clause-not_empty : goal.force_piece-requires-clause-not_empty
 force_piece-requires-clause-not_empty c =
-    (force_ticks c.args.position c.args.from c.args.to c.args.value (contents c.args.capture.now) c.requires.allowed).0
+    let f = c.args.forced.now in
+    (force_ticks c.args.position f.from f.to f.value (contents c.args.capture.now) c.requires.allowed).0
 
 pub force_piece-requires-clause-within : goal.force_piece-requires-clause-within
 force_piece-requires-clause-within c =
-    rw (c.end.ensures) ((force_ticks c.args.position c.args.from c.args.to c.args.value (contents c.args.capture.now)
-    c.requires.allowed).1)
+    let f = c.args.forced.now in
+    rw (c.end.ensures)
+    ((force_ticks c.args.position f.from f.to f.value (contents c.args.capture.now) c.requires.allowed).1)
 
 pub returns : goal.returns
 unfolding effect
 returns c =
+    let f = c.args.forced.now in
     let piece = rw (c.end.ensures) at c.in_ok-piece.ensures in
-    wave_plan (Force c.args.position c.args.from c.args.to c.args.value) (contents c.args.capture.now) c.args.position
-    (force_value c.args.from c.args.to c.args.value) (pos 0) (signal_contents c.signal_at-old.result.now)
+    wave_plan (Force c.args.position f.from f.to f.value) (contents c.args.capture.now) c.args.position
+    (force_value f.from f.to f.value) (pos 0) (signal_contents c.signal_at-old.result.now)
     c.in_ok-piece.piece c.piece_record.result c.requires.sound c.requires.allowed c.signal_at-old.ensures.within
     c.signal_at-old.ensures.signal
     refl refl refl piece

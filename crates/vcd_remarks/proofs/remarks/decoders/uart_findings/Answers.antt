@@ -1,4 +1,4 @@
-use Rattle.std.proofs.Common.{◌∙◌, ◌==◌, ◌∷◌, [], length, if◌then◌else◌, false}
+use Rattle.std.proofs.Common.{◌∙◌, ◌==◌, ◌∷◌, [], length, if◌then◌else◌}
 use Rattle.vcd_core.specs.CaptureContents.{contents}
 use Rattle.vcd_core.specs.Contents.{signal_at}
 use Rattle.vcd_decode.specs.Uart.{uart_annotations}
@@ -9,6 +9,7 @@ use Rattle.vcd_remarks.specs.UartLine.{early_start, long_runs, long_bit}
 use Rattle.vcd_remarks.specs.ValueRuns.{runs_begun}
 use Rattle.vcd_remarks.proofs.remarks.FindingsOfSignals.{finding_is, under_of}
 use Rattle.vcd_remarks.proofs.remarks.decoders.uart_findings.Goals as goal
+use Rattle.vcd_remarks.specs.declared.lost_lines.Pull.TheVariants.{Floating}
 
 pub returns : goal.returns
 returns c =
@@ -18,7 +19,7 @@ returns c =
     let line = c.scalar_wave-wave.ensures.letters in
     let changes = c.changes_at-changes.ensures in
     let end = c.end-end.ensures in
-    let lost = c.lost_ticks-lost.ensures ∙ (λ i. found_ticks (ticks_where (becomes_lost false (line i)) (end i))) in
+    let lost = c.lost_ticks-lost.ensures ∙ (λ i. found_ticks (ticks_where (becomes_lost Floating (line i)) (end i))) in
     let early = c.early_start-early.ensures ∙ (λ i. found_ticks (early_start (c.frame_ticks.ensures i) (changes i))) in
     let long = c.long_runs-long.ensures
     ∙ (λ i. found_ticks (long_runs (c.sixths_of_bit.ensures i) (end i) (runs_begun (end i) (changes i))))

@@ -1,9 +1,10 @@
-use Rattle.std.proofs.Common.{◌∙◌, ◌∷◌, [], false}
+use Rattle.std.proofs.Common.{◌∙◌, ◌∷◌, []}
 use Rattle.vcd_remarks.specs.FoundTicks.{found_ticks, ticks_where}
 use Rattle.vcd_remarks.specs.LostLines.{becomes_lost}
 use Rattle.vcd_remarks.specs.SpiSelection.{has_edge_at_change, unselected_edges}
 use Rattle.vcd_remarks.proofs.remarks.FindingsOfSignals.{finding_is}
 use Rattle.vcd_remarks.proofs.remarks.spi.cs_findings.Goals as goal
+use Rattle.vcd_remarks.specs.declared.lost_lines.Pull.TheVariants.{Floating}
 
 pub returns : goal.returns
 returns c =
@@ -11,7 +12,7 @@ returns c =
     let clk = c.scalar_wave-clk.ensures.letters in
     let cs = c.scalar_wave-cs.ensures.letters in
     let end = c.end-end.ensures in
-    let lost = c.lost_ticks-lost.ensures ∙ (λ i. found_ticks (ticks_where (becomes_lost false (cs i)) (end i))) in
+    let lost = c.lost_ticks-lost.ensures ∙ (λ i. found_ticks (ticks_where (becomes_lost Floating (cs i)) (end i))) in
     let changes = c.spi_selection_findings-found.ensures.changes
     ∙ (λ i. found_ticks (ticks_where (has_edge_at_change u (clk i) (cs i)) (end i))) in
     let unselected = c.spi_selection_findings-found.ensures.unselected

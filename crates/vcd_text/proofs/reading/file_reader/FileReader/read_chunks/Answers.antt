@@ -1,3 +1,4 @@
+use Rattle.std.proofs.Common.{◌++◌}
 use Rattle.vcd_text.proofs.shared.Chunks.{nothing_heard}
 use Rattle.vcd_text.proofs.reading.file_reader.FileReader.read_chunks.Goals as goal
 use Rattle.vcd_text.proofs.shared.FailedResults.{err_is}
@@ -20,12 +21,14 @@ take_chunk-requires-clause-matches g c = (
 )
 
 pub loop-progress-preserved : goal.loop-progress-preserved
-loop-progress-preserved g c = (
-  c.in_ok-take_chunk.ensures.taken c.args.limit c.args.most c.args.listener.now (g.R.Source.coming c.args.source.now)
-      c.loop-progress.invariant.0,
-  c.in_ok-take_chunk.ensures.not_failed,
-  λ goes. c.take_chunk.ensures.goes_on c.args.listener.now (c.loop-progress.invariant.2 goes),
-)
+loop-progress-preserved g c =
+    let (bytes, came, heard) = c.loop-progress.invariant.0 in
+    let (chunk, consumed, more) = c.in_ok-take_chunk.ensures.taken c.args.limit c.args.most c.args.listener.now
+    (g.R.Source.coming c.args.source.now) bytes came heard in (
+      (bytes ++ chunk, consumed, more),
+      c.in_ok-take_chunk.ensures.not_failed,
+      λ goes. c.take_chunk.ensures.goes_on c.args.listener.now (c.loop-progress.invariant.2 goes),
+    )
 
 pub returns-in_err-take_chunk-clause-refused : goal.returns-in_err-take_chunk-clause-refused
 returns-in_err-take_chunk-clause-refused g c = rw (err_is _ c.from_residual.ensures.1)
@@ -37,16 +40,22 @@ returns-in_err-take_chunk-clause-goes_on g c = λ goes.
     c.take_chunk.ensures.goes_on c.args.listener.now (c.loop-progress.invariant.2 goes)
 
 pub returns-then-is_done-clause-heard : goal.returns-then-is_done-clause-heard
-returns-then-is_done-clause-heard g c = c.in_ok-take_chunk.ensures.taken c.args.limit c.args.most
-    c.args.listener.now (g.R.Source.coming c.args.source.now) c.loop-progress.invariant.0
+returns-then-is_done-clause-heard g c =
+    let (bytes, came, heard) = c.loop-progress.invariant.0 in
+    let (chunk, consumed, more) = c.in_ok-take_chunk.ensures.taken c.args.limit c.args.most c.args.listener.now
+    (g.R.Source.coming c.args.source.now) bytes came heard in
+    (bytes ++ chunk, consumed, more)
 
 pub returns-then-is_done-clause-goes_on : goal.returns-then-is_done-clause-goes_on
 returns-then-is_done-clause-goes_on g c = λ goes.
     c.take_chunk.ensures.goes_on c.args.listener.now (c.loop-progress.invariant.2 goes)
 
 pub returns-clause-heard : goal.returns-clause-heard
-returns-clause-heard g c = c.in_ok-take_chunk.ensures.taken c.args.limit c.args.most c.args.listener.now
-    (g.R.Source.coming c.args.source.now) c.loop-progress.invariant.0
+returns-clause-heard g c =
+    let (bytes, came, heard) = c.loop-progress.invariant.0 in
+    let (chunk, consumed, more) = c.in_ok-take_chunk.ensures.taken c.args.limit c.args.most c.args.listener.now
+    (g.R.Source.coming c.args.source.now) bytes came heard in
+    (bytes ++ chunk, consumed, more)
 
 pub returns-clause-goes_on : goal.returns-clause-goes_on
 returns-clause-goes_on g c = λ goes.

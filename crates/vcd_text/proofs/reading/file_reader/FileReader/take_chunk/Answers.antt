@@ -69,13 +69,12 @@ returns-in_err-take_words-clause-failed g c =
     (still_heard p _ bytes chunk heard (text ∙ ap (λ l. l ++ chunk) c.in_ok-make_room.ensures.same) refl refl)) is))
 
 pub returns-clause-taken : goal.returns-clause-taken
-returns-clause-taken g c = λ limit most start coming stands.
+returns-clause-taken g c = λ limit most start coming bytes came (taken, heard).
     let p = c.args.self.now in
-    let (bytes, came, (taken, heard)) = stands in
     let (chunk, second, text, count) = c.in-Ok.ensures.more in
     let come = has_come _ _ _ p c.read_from.new.self _ _ _ _ _ taken text c.in_ok-make_room.ensures.same count
     (omega (arith, c.if-count-self.false)) c.len-unfinished_len.ensures in (
-      bytes ++ chunk,
+      chunk,
       Consumes-trans coming (g.R.Source.coming c.args.source.now) (g.R.Source.coming c.read_from.new.source) bytes chunk
           came second,
       c.in_ok-take_words.ensures.taken limit most start (bytes ++ chunk) come

@@ -1,0 +1,2 @@
+-- Lemmas of `hollow_reading`.
+pub mod HollowSignals

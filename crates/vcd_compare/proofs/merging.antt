@@ -1,2 +1,0 @@
--- Lemmas of `merging`.
-pub mod Cursors

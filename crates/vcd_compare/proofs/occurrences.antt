@@ -1,0 +1,2 @@
+-- Lemmas of `occurrences`.
+pub mod LastPlaces

@@ -1,0 +1,4 @@
+-- Lemmas of `pairs`.
+pub mod PairSteps
+pub mod Changes
+pub mod Listed

@@ -1,0 +1,50 @@
+use Rattle.std.proofs.Common.{◌≡◌, ℕ, ◌<◌, ◌≤◌, Some, None, List, length, map, get_or, refl, sym, ap, subst, ◌∙◌, arith}
+use Rattle.std.proofs.lemmas.List.{length-map}
+use Rattle.vcd_core.specs.inside.value.EqualByLetters.{same_letters-Decides}
+use Rattle.vcd_compare.specs.inside.Occurrences.{IsLastPlace}
+use Rattle.vcd_compare.specs.inside.Pairs.{variable_in}
+use Rattle.vcd_compare.proofs.pairs.Changes.{all_changed, one_changed}
+use Rattle.vcd_compare.proofs.pairs.change_all.Goals as goal
+use Rattle.vcd_compare.proofs.pairs.change_all.Goals.{then-place-all, else-place-all}
+
+pub loop-at-preserved : goal.loop-at-preserved
+loop-at-preserved c limit variable has last_is =
+    let change = c.args.change.now in
+    let old = c.args.all.now in
+    let numbers : List ℕ = map (variable_in change.which) old in
+    let place = c.in-Some.place in
+    let (bound, within, changed, at_last) = c.loop-at.invariant limit variable has last_is in
+    let last : IsLastPlace numbers bound variable (Some place) =
+    subst (IsLastPlace numbers bound variable) c.in-Some.is at_last in
+    let below : place < length old = omega (arith, last.0, within) in
+    let before : IsLastPlace numbers place variable c.before-at.result =
+    subst (λ m. IsLastPlace numbers place m c.before-at.result) last.1
+    (c.before-at.ensures.before limit numbers has (omega (arith, below, length-map old (variable_in change.which)))) in
+    elim c.if-place-all.branch [
+      | then-place-all w ↦ (
+        place,
+        omega (arith, below),
+        one_changed c.args.bounds change.which variable change.tick change.value bound place old c.loop-at.all
+            c.if-place-all.all (get_or c.loop-at.all place w.index-all-place.result) _ within changed last
+            (ap (get_or c.loop-at.all place) w.index-all-place.is) refl
+            (record {
+              found = λ wave other. w.change.ensures.found wave other (λ v. (same_letters-Decides v v).1 refl);
+              tick_is = w.change.ensures.tick;
+              a = w.change.ensures.a;
+              b = w.change.ensures.b;
+            })
+            w.all-is,
+        before,
+      )
+      | else-place-all w ↦
+          let count = changed.count in
+          absurd (omega (arith, below, count, w.if-place-all.false))
+    ]
+
+pub returns : goal.returns
+returns c limit variable has last_is =
+    let change = c.args.change.now in
+    let old = c.args.all.now in
+    let (bound, within, changed, at_last) = c.loop-at.invariant limit variable has last_is in
+    all_changed c.args.bounds change.which variable change.tick change.value bound old c.loop-at.all within changed
+    (subst (IsLastPlace (map (variable_in change.which) old) bound variable) c.in_default.is at_last)

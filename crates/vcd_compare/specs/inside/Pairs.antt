@@ -1,0 +1,112 @@
+-- The pairs of signals that are compared, while changes come.
+use Rattle.std.specs.Prelude.{◌≡◌, ◌≢◌, ℕ, ◌+◌, ◌≤◌, ◌<◌, max, List, [], ◌∷◌, map, length}
+use Rattle.std.specs.Prelude.{slice_index_or}
+use Rattle.std.specs.List.{AllZip}
+use Rattle.vcd_core.specs.declared.bit.Bit.{Bit}
+use Rattle.vcd_core.specs.declared.wave.Change.{Change}
+use Rattle.vcd_core.specs.Value.{same_letters}
+use Rattle.vcd_core.specs.Wave.{value_from}
+use Rattle.vcd_compare.specs.Differences.{WaveByTicks, compared, ticks_between}
+use Rattle.vcd_compare.specs.ShortestRun.{short_run}
+use Rattle.vcd_compare.specs.inside.WavePair.{HasValueUntil, HasFoundBefore, first_after}
+use Rattle.vcd_compare.specs.inside.WavePair.{second_after}
+use Rattle.vcd_compare.specs.inside.Occurrences.{HasOccurrences}
+use Rattle.vcd_compare.specs.declared.wave_pair.Bounds.{Bounds}
+use Rattle.vcd_compare.specs.declared.wave_pair.WavePair.{WavePair}
+use Rattle.vcd_compare.specs.declared.pairs.Which.{Which}
+use Rattle.vcd_compare.specs.declared.pairs.Which.TheVariants.{First, Second}
+use Rattle.vcd_compare.specs.declared.pairs.SignalPair.{SignalPair}
+use Rattle.vcd_compare.specs.declared.pairs.ComparedPair.{ComparedPair}
+use Rattle.vcd_compare.specs.declared.pairs.Pairs.{Pairs}
+
+-- a wave of letters
+abbrev pub WaveOfLetters : Type 0
+WaveOfLetters = WaveByTicks (List Bit)
+
+-- ---- which pairs a variable is in
+
+-- the variable of a pair in one of the captures
+abbrev pub variable_in : Which → SignalPair → ℕ
+variable_in First p = p.first_variable
+variable_in Second p = p.second_variable
+
+-- the pairs are listed by their variables, of which the captures have so many
+pub record AreListed (count others : ℕ) (pairs : Pairs) : Type 0 where
+  pub first : HasOccurrences count (map (variable_in First) pairs.all.items) pairs.of_first
+  pub second : HasOccurrences others (map (variable_in Second) pairs.all.items) pairs.of_second
+
+-- what belongs to one of two captures
+abbrev pub chosen : {A : Type 0} → Which → (first second : A) → A
+chosen First first second = first
+chosen Second first second = second
+
+-- the signals of all pairs with a variable have this width
+abbrev pub AreAsWide : Which → (variable width : ℕ) → List SignalPair → Type 0
+AreAsWide which variable width pairs = (i : ℕ) (default : SignalPair) → i < length pairs
+    → variable_in which (slice_index_or pairs i default) ≡ variable
+    → (slice_index_or pairs i default).width ≡ width
+
+-- ---- a change
+
+-- one of two waves has got a value at a tick
+pub record HasChanged (bounds : Bounds) (which : Which) (tick : ℕ) (value : List Bit)
+    (old new : WavePair (List Bit)) : Type 0 where
+  pub found : (wave other : WaveOfLetters)
+      → HasFoundBefore same_letters bounds.tolerance wave other bounds.first old
+      → HasValueUntil wave old.tick tick old.a → HasValueUntil other old.tick tick old.b
+      → HasFoundBefore same_letters bounds.tolerance wave other bounds.first new
+  pub tick_is : new.tick ≡ max old.tick tick
+  pub a : new.a ≡ first_after which value old.a
+  pub b : new.b ≡ second_after which value old.b
+
+-- a variable has got a value at a tick, which is one of a pair or not
+pub record IsPairAfter (bounds : Bounds) (which : Which) (variable tick : ℕ) (value : List Bit)
+    (old new : SignalPair) : Type 0 where
+  pub others : new ≡ record old { waves = new.waves }
+  pub changed : variable_in which old ≡ variable
+      → HasChanged bounds which tick value old.waves new.waves
+  pub unchanged : variable_in which old ≢ variable → new.waves ≡ old.waves
+
+-- the same of all pairs
+pub record ArePairsAfter (bounds : Bounds) (which : Which) (variable tick : ℕ) (value : List Bit)
+    (old new : List SignalPair) : Type 0 where
+  pub count : length new ≡ length old
+  pub each : (i : ℕ) (default : SignalPair) → i < length old
+      → IsPairAfter bounds which variable tick value (slice_index_or old i default)
+      (slice_index_or new i default)
+
+-- ---- what a pair knows of its waves
+
+-- no change is before a tick
+abbrev pub AllFrom : (floor : ℕ) → List Change → Type 0
+AllFrom floor [] = Unit {0}
+AllFrom floor (c ∷ cs) = (floor ≤ c.tick) × AllFrom floor cs
+
+-- two waves have been compared up to before a tick, from which on these changes are left; the
+-- window ends at `last`
+pub record IsWavePairAt (bounds : Bounds) (last : ℕ) (wave other : WaveOfLetters)
+    (left_a left_b : List Change) (p : WavePair (List Bit)) : Type 0 where
+  pub found : HasFoundBefore same_letters bounds.tolerance wave other bounds.first p
+  pub a : (s : ℕ) → p.tick ≤ s → wave s ≡ value_from p.a left_a s
+  pub b : (s : ℕ) → p.tick ≤ s → other s ≡ value_from p.b left_b s
+  pub within : p.tick ≤ max bounds.first last
+
+-- ---- the end
+
+-- this is told of a pair, if `last` is the last tick of the window
+pub record IsToldOf (bounds : Bounds) (last : ℕ) (p : SignalPair) (told : ComparedPair)
+    : Type 0 where
+  pub first : told.first ≡ p.first
+  pub second : told.second ≡ p.second
+  pub waves : (wave other : WaveOfLetters) → p.waves.tick ≤ last
+      → HasFoundBefore same_letters bounds.tolerance wave other bounds.first p.waves
+      → HasValueUntil wave p.waves.tick (last + 1) p.waves.a
+      → HasValueUntil other p.waves.tick (last + 1) p.waves.b
+      → (told.differences
+      ≡ compared same_letters bounds.tolerance wave other (ticks_between bounds.first last))
+      × (told.short_run
+      ≡ short_run same_letters bounds.tolerance wave other (ticks_between bounds.first last))
+
+-- the same of all pairs
+abbrev pub AreTold : Bounds → (last : ℕ) → List SignalPair → List ComparedPair → Type 0
+AreTold bounds last = AllZip (IsToldOf bounds last)

@@ -1,0 +1,3 @@
+-- The definitions of what programs share that carry out a script.
+pub mod ScriptOptions
+pub mod RunReport

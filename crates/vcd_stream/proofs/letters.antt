@@ -1,0 +1,2 @@
+-- Lemmas of `letters`.
+pub mod BlockOfValue

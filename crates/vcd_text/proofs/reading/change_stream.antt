@@ -1,0 +1,3 @@
+-- Lemmas of `reading/change_stream`.
+pub mod ItemsSoFar
+pub mod StreamedFile

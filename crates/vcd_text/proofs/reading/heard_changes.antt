@@ -1,0 +1,2 @@
+-- Lemmas of `reading/heard_changes`.
+pub mod Places
