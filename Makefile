@@ -1,8 +1,8 @@
 # Builds, installs and packs vcdedit. `make` alone builds, and says what else there is.
 PREFIX ?= /usr/local
 ZSH_FOLDER ?= share/zsh/site-functions
-PROGRAMS = vcdedit vcdedit-amend
-TOOLS = vcdedit-apply vcdedit-compare vcdedit-table vcdedit-view
+PROGRAMS = vcdedit vcdedit-amend vcdedit-compare
+TOOLS = vcdedit-apply vcdedit-table vcdedit-view
 DOCUMENTS = CHANGELOG.md docs/COOKBOOK.md docs/SCRIPT.md docs/FORMATS.md examples
 # What install put below PREFIX, a line for each file and each folder that was not there. Uninstall takes it away.
 MADE = share/vcdedit/made
@@ -11,13 +11,14 @@ MADE = share/vcdedit/made
 FOLDERS = prefix="$(PREFIX)"; case $$prefix in /*) ;; *) prefix="$$PWD/$$prefix" ;; esac; root="$(DESTDIR)$$prefix"
 
 all: build
-	@echo "The programs are built: ./vcdedit and ./vcdedit-amend run them."
+	@echo "The programs are built: ./vcdedit, ./vcdedit-amend and ./vcdedit-compare run them."
 	@sed -n 's/^\([a-z]*\):[^#]*## /make \1: /p' Makefile
 
 # Each proves and builds its program where that is missing or old.
 build:
 	@./vcdedit -i examples/handshake.vcd --script /dev/null
 	@./vcdedit-amend -i examples/handshake.vcd --script /dev/null
+	@./vcdedit-compare examples/handshake.vcd examples/handshake.vcd > /dev/null
 
 install: build ## to /usr/local, or PREFIX=FOLDER; DESTDIR=FOLDER goes before that, for a package
 	@set -e; umask 022; $(FOLDERS); \

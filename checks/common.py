@@ -19,14 +19,14 @@ EDITS = [edit.decode() for edit in vcd_runs.EDITS]
 CASES = os.path.join(TOP, "cases")
 EXAMPLES = os.path.join(TOP, "examples")
 # What `make install` and `make deb` want of the tree.
-INSTALLED = """vcdedit vcdedit-amend launch CHANGELOG.md Makefile crates.txt completions docs examples generate
+INSTALLED = """vcdedit vcdedit-amend vcdedit-compare launch CHANGELOG.md Makefile crates.txt completions docs examples generate
     tools""".split()
 SECONDS = 120
 # Whether the programs are built without a proof, with checks at run time (checks/quick --unproved): then each takes far
 # more memory and time than a program does.
 IS_UNPROVED = "UNPROVED" in os.environ
 # The crates of the programs. What the prover said of each is in its out/proof.txt (generate/proofs).
-PROGRAMS = ["vcdedit", "vcdedit_amend"]
+PROGRAMS = ["vcdedit", "vcdedit_amend", "vcdedit_compare"]
 # What programs hold in files (TMPDIR) is in a folder of each check's own, so that no check takes a name from another.
 HELD = tempfile.TemporaryDirectory(prefix="vcdedit-check-")
 os.environ["TMPDIR"] = HELD.name
@@ -124,11 +124,19 @@ def with_those_below(crate):
     return crates
 
 
-def amend_of(program):
-    """The vcdedit-amend that was built beside a vcdedit, in the tree of its crate, or else next to it."""
+def neighbour_of(program, name):
+    """The program of this name that was built beside a vcdedit, in the tree of its crate, or else next to it."""
     folder = program.removesuffix("/vcdedit/out/vcdedit")
-    in_tree = os.path.basename(folder) == "crates"
-    return os.path.join(folder, "vcdedit_amend/out/vcdedit_amend") if in_tree else program + "-amend"
+    in_tree, crate = os.path.basename(folder) == "crates", "vcdedit_" + name
+    return os.path.join(folder, crate, "out", crate) if in_tree else program + "-" + name
+
+
+def amend_of(program):
+    return neighbour_of(program, "amend")
+
+
+def compare_of(program):
+    return neighbour_of(program, "compare")
 
 
 def lay_out(program, folder):
@@ -141,7 +149,7 @@ def lay_out(program, folder):
         else:
             shutil.copy2(source, copy)
     built = os.path.join(folder, "crates/vcdedit/out/vcdedit")
-    for source, copy in ((program, built), (amend_of(program), amend_of(built))):
+    for source, copy in ((program, built), *((of(program), of(built)) for of in (amend_of, compare_of))):
         os.makedirs(os.path.dirname(copy))
         shutil.copy(source, copy)
 

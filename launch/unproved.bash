@@ -19,12 +19,13 @@ try() {
     rm -rf "$work"
 }
 
-# `rt try` keeps no program. So it gets a folder of ours to work in, and the program is copied while it runs there: on
-# the words of its crate, and on a capture that takes it some seconds.
+# `rt try` keeps no program. So it gets a folder of ours to work in, and the program is copied while it runs there: on a
+# capture that takes it some seconds, with the words of its crate, or on two of these.
 compile() {
     local words=() running
     cd "$top/crates/$crate" || exit
     [[ ! -e args ]] || mapfile -t words < args
+    [[ ! -e data ]] || words=("$work/capture" "$work/capture")
     { echo '$var wire 1 ! x $end $enddefinitions $end #0 0!' && seq -f '#%.0f 1!' 1 100000; } > "$work/capture"
     TMPDIR="$work" rt try -- "${words[@]}" < "$work/capture" &
     while kill -0 "$!" 2> /dev/null; do

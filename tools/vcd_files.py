@@ -1,4 +1,4 @@
-"""What the tools around vcdedit share: how they begin and end, files, what vcdedit leaves out, times and patterns.
+"""What the tools around vcdedit share: how they begin and end, captures, and scripts.
 
 Words, names and codes are bytes, as they stand in the file; `shown` makes text of them.
 """
@@ -27,7 +27,6 @@ import argparse
 import collections
 import contextlib
 import errno
-import fnmatch
 import fractions
 import io
 import itertools
@@ -56,15 +55,10 @@ COMMAND = re.compile(rb"\s*(\$\S+)(.*?)\s\$end(?=\s)", re.S)
 TIMES = {b"shift": [2], b"cut": [1, 2], b"deglitch": [2], b"force": [2, 3], b"value": [2], b"uart": [2]}
 UNITED = re.compile(rb"([-+]?)(?:([0-9]{1,20}(?:\.[0-9]{1,15})?)([munpf]?s)|([1-9][0-9]{0,19})baud)")
 LINES_SHOWN = 10
-# Options that the program has, too.
-PART = [
-    ("--keep", "PATTERN", "keep only variables whose full names match"), ("--remove", "PATTERN", "leave these out"),
-    ("--from", "TIME", "the first tick of a part, or a time as 1.5ms"), ("--to", "TIME", "its last one"),
-]
 
 
-class Trouble(argparse.ArgumentTypeError):
-    """Why a tool ends, refuses a word or leaves a capture as it is: a line for its user, the status, and more lines."""
+class Trouble(Exception):
+    """Why a tool ends or leaves a capture as it is: a line for its user, the status, and more lines."""
 
     def __init__(self, reason, *more, status=4):
         super().__init__(reason)
@@ -169,28 +163,6 @@ def words_of(file):
     yield from rest.split()
 
 
-def variables_in(words, listing):
-    """The declared variables: the code of each signal, and what the others are."""
-    kept, scopes, codes, skipped = collections.deque(listing.signals), [], [], []
-    for command in itertools.takewhile(b"$enddefinitions".__ne__, words):
-        inner = list(itertools.takewhile(b"$end".__ne__, words))
-        if command == b"$scope":
-            scopes.append(b"".join(inner[1:]))
-        elif command == b"$upscope":
-            del scopes[-1:]
-        elif command == b"$var":
-            kind, width, code, *own = inner
-            name = b".".join([*scopes, b"".join(own)])
-            if kept and (width.lstrip(b"0"), kind, name) == (b"%d" % kept[0].width, *kept[0][1:]):
-                kept.popleft()
-                codes.append(code)
-            else:
-                skipped.append(shown(b" ".join([kind, width, name])))
-    if kept or len(skipped) != listing.skipped:
-        raise Trouble("its variables are not those that vcdedit lists")
-    return codes, skipped
-
-
 def declared_in(file):
     """Each command of the declarations of an open file: a match, its words, and the full name if it is a variable."""
     text, place, scopes = b"", 0, []
@@ -254,70 +226,10 @@ def changes_in(words):
             collections.deque(itertools.takewhile(b"$end".__ne__, words), 0)
 
 
-def losses_of(words, names):
-    """(what, lines about variables) of the comments and changes that vcdedit leaves out, by the names of codes."""
-    reals, replaced, comments, seen = collections.Counter(), collections.Counter(), 0, {}
-    for tick, code, value, _ in changes_in(words):
-        if code is None:
-            comments += 1
-        elif code in names and value is None:
-            reals[code] += 1
-        elif code in names:
-            before, seen[code] = seen.get(code), (tick, value)
-            if before and before[0] == tick and before != seen[code]:
-                replaced[code] += 1
-    for counts, what in ((reals, "real or string change%s"), (replaced, "change%s replaced within a tick")):
-        if counts:
-            told = ["%s: %s" % (names[code], counted(count, what)) for code, count in counts.items()]
-            yield counted(sum(counts.values()), what), told
-    if comments:
-        yield counted(comments, "comment%s among the changes"), []
-
-
-def ticks_in(words, numbers):
-    """(tick, {number: value}) of what changes at each tick, by the numbers of codes. At the first all have a value."""
-    tick, found, values = 0, dict.fromkeys(numbers, b"x"), {}
-    for after, code, value, _ in itertools.chain(changes_in(words), [(None, None, None, None)]):
-        if after != tick and found:
-            yield tick, {number: value for code, value in found.items() if values.get(code) != value
-                         for number in numbers[code]}
-            values.update(found)
-            found = {}
-        tick = after
-        if value and code in numbers:
-            found[code] = value
-
-
 def unit_ticks(unit, timescale):
     """How many ticks a second, ms, .. has at a timescale such as '10 ns': a fraction."""
     number, of_tick = timescale.split(" ")
     return fractions.Fraction(1000) ** (UNITS.index(of_tick) - UNITS.index(unit)) / int(number)
-
-
-def time_of(text):
-    """The time that a text names: a number of ticks, or a number with a unit, as 1.5ms. It is the match of the text."""
-    time = re.fullmatch(r"0*([0-9]{1,20})(?:(\.[0-9]{1,15})?([munpf]?s))?", text)
-    if not time or int(time[1]) >= 2**64 - 1:
-        raise Trouble("%s is no time: write ticks, or a number and s, ms, us, ns, ps or fs" % text)
-    return time
-
-
-def ticks_of(time, timescale):
-    """The tick of a time. The timescale may be `none`."""
-    text, (whole, part, unit) = time[0], time.groups("")
-    if not unit:
-        return int(whole)
-    if timescale == "none":
-        raise Trouble("%s: the capture has no timescale: write ticks" % text, status=2)
-    tick = fractions.Fraction(whole + part) * unit_ticks(unit, timescale)
-    if tick.denominator != 1:
-        raise Trouble("%s is between tick %d and the next: write ticks" % (text, tick // 1), status=2)
-    return int(tick)
-
-
-def matcher(pattern):
-    """A test of full names by a pattern: `*` stands for any bytes, `?` for any one, and all else for itself."""
-    return re.compile(os.fsencode(fnmatch.translate(shown(pattern).replace("[", "[[]")))).match
 
 
 def add_script(parser):
@@ -344,38 +256,24 @@ def opened(path):
     """A capture that is read more than once: what is no regular file is copied first."""
     try:
         file = sys.stdin.buffer if path == "-" else open(path, "rb")
-        if path != "-" and os.path.isfile(path):
-            return file
-        copy = tempfile.TemporaryFile()
-        shutil.copyfileobj(file, copy)
-        copy.seek(0)
-        return copy
+        if path == "-" or not os.path.isfile(path):
+            given, file = file, tempfile.TemporaryFile()
+            shutil.copyfileobj(given, file)
+            file.seek(0)
+        return file
     except OSError as error:
         name = path if error.filename else "%s or its copy in %s" % (path, tempfile.gettempdir())
         raise Trouble("%s: %s" % (name, error.strerror)) from None
 
 
-def add_window(parser, what, end):
-    """Gives a parser options for the first tick and the last that a tool looks at."""
-    how = {"metavar": "TIME", "type": time_of}
-    parser.add_argument("--from", dest="first", default="0", help="the first tick %s, or a time as 1.5ms" % what, **how)
-    parser.add_argument("--to", dest="last", help="the last tick %s [default: %s]" % (what, end), **how)
-
-
-def window_of(options, timescale, end, what):
-    """The first tick and the last that a tool looks at, which is none past the end."""
-    first = ticks_of(options.first, timescale)
-    last = end if options.last is None else min(end, ticks_of(options.last, timescale))
-    if first > last:
-        raise Trouble("--from: tick %d is past the last that is %s, %d" % (first, what, last), status=2)
-    return first, last
-
-
 def add_part(parser):
     """Gives a parser the options for a part, as the program has them."""
-    for option, metavar, meant in PART:
-        parser.add_argument(option, metavar=metavar, dest="part", action="append", default=[],
-                            type=(option + "=").__add__, help=meant)
+    for option, metavar, meant in (
+        ("--keep", "PATTERN", "keep only variables whose full names match"), ("--remove", "PATTERN", "leave these out"),
+        ("--from", "TIME", "the first tick of a part, or a time as 1.5ms"), ("--to", "TIME", "its last one"),
+    ):
+        how = {"dest": "part", "action": "append", "default": [], "type": (option + "=").__add__}
+        parser.add_argument(option, metavar=metavar, help=meant, **how)
 
 
 def parser_of(name, text, operands):

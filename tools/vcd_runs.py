@@ -17,10 +17,9 @@ from vcd_files import NO_ROOM, Trouble, program, shown
 INTERRUPTIONS = [signal.Signals["SIG" + name] for name in "INT TERM HUP QUIT ALRM USR1 USR2 XCPU".split()]
 # The commands of a script that edit.
 EDITS = b"rename remove invert shift cut deglitch force derive".split()
-# Lines without words and comments have no reply, others one, `changes` more while later ticks follow, and those that
-# decode any number, so a line comes behind them that is refused; where none may be, a listing, which begins with HEAD.
-# Among the replies of `spi` are the changes of CS.
-DECODERS, HEAD, LATER = {b"uart", b"spi", b"i2c"}, b"timescale ", re.compile(rb"[1-9][0-9]* \S+\n").fullmatch
+# Lines without words and comments have no reply, others one, and those of MANY any number, so a listing comes behind
+# them, which begins with HEAD. Among the replies of `spi` are the changes of CS.
+DECODERS, MANY, HEAD = {b"uart", b"spi", b"i2c"}, {b"uart", b"spi", b"i2c", b"changes"}, b"timescale "
 # Remarks of vcdedit-amend on a line, by its number, and on its output and the capture, on standard error.
 REMARK, OF_CAPTURE = re.compile(r"^line (\d+): (.*)\n", re.M), "capture: the last line"
 FILE_REMARK = re.compile("^(?:output:|%s) .*" % OF_CAPTURE, re.M)
@@ -57,11 +56,11 @@ def listing_of(lines):
     return Listing(shown(head[b"timescale"]), int(head[b"end"]), int(head[b"skipped"]), signals)
 
 
-def behind(line, last):
-    """The lines that are asked behind a line that decodes: the changes of a CS, and a last one."""
+def asked(line):
+    """What a script has for a line: behind one with many replies come the changes of a CS, and a listing."""
     command, *words = line.split() or [b""]
     changes = b"changes %s\n" % words[3] if command == b"spi" and words[3:4] not in ([], [b"-"]) else b""
-    return changes + last if command in DECODERS else b""
+    return line + b"\n" + (changes + b"list\n" if command in MANY else b"")
 
 
 class Run:
@@ -69,11 +68,10 @@ class Run:
 
     def __init__(self, source, lines=(), words=(), path="/dev/stdin", **how):
         """`words` are more options. The program opens the capture by a path. If `lines` are None, it has no script."""
-        self.source, self.asked, self.program = source, lines, program("vcdedit-amend")
+        self.source, self.given, self.program = source, lines, program("vcdedit-amend")
         self.lines = vcd_files.lines_in_ticks(lines or (), source)
-        self.lists = "--all-or-nothing" in words
         # The numbers of the lines in the script below.
-        texts = [line + b"\n" + behind(line, b"list\n" if self.lists else b"?\n") for line in self.lines]
+        texts = list(map(asked, self.lines))
         self.numbers = list(itertools.accumulate((text.count(b"\n") for text in texts), initial=2))
         with open(os.memfd_create("script"), "wb") as script:
             script.write(b"list\n" + b"".join(texts))
@@ -104,21 +102,16 @@ class Run:
 
     def replies(self):
         """(place of a line, reply) of each reply to the lines."""
-        ahead = []
-        replies = iter(lambda: ahead.pop() if ahead else self.child.stdout.readline(), b"")
-        while_is = lambda test: itertools.takewhile(lambda one: test(one) or ahead.append(one), replies)
+        replies = iter(self.child.stdout.readline, b"")
         for place, command in enumerate(map(command_of, self.lines)):
             said = itertools.islice(replies, int(command[:1] not in (b"", b"#")))
-            if command == b"changes":
-                said = itertools.chain(said, while_is(LATER))
+            if command in MANY:
+                said = itertools.takewhile(lambda one: not one.startswith(HEAD), replies)
             elif command == b"list" and (one := list(said)):
                 said = listed(itertools.chain(one, replies)) if one[0].startswith(HEAD) else one
-            elif command in DECODERS:
-                last = HEAD if self.lists else b"line %d: " % (self.numbers[place + 1] - 1)
-                said = while_is(lambda one: not one.startswith(last))
             yield from ((place, reply[:-1]) for reply in said)
-            if command in DECODERS:
-                listed(replies) if self.lists else next(replies, None)
+            if command in MANY:
+                listed(itertools.chain([HEAD], replies))
         self.want_end()
 
     def told(self):
@@ -129,7 +122,7 @@ class Run:
     def remarks(self):
         """(place of a line, remark) of each line that is carried out otherwise, and each remark of the program."""
         for place, line in enumerate(self.lines):
-            if line is not self.asked[place]:
+            if line is not self.given[place]:
                 yield place, "carried out as: " + shown(line)
         for number, remark in REMARK.findall(self.told()):
             yield bisect.bisect(self.numbers, int(number)) - 1, remark

@@ -32,8 +32,8 @@ ODD, NO_TEXT = "\N{EURO SIGN} odd\n-name", os.fsdecode(b"\xff")
 FILES = {
     **dict.fromkeys(["A", "B", "B.orig", "fixed", "kept/A", "sub/p", ODD, NO_TEXT], LINE),
     "inuse/p": LINE, "inuse/.p.vcdedit": "of another", "late": LINE.replace("1 us", "1 ns").replace("#30", "#40"),
-    "packed": gzip.compress(LINE.encode()), "faulty": "#0\n", "analog": LINE + "A0: -10 V\n", "torn": LINE + "#9\n",
-    "some": "value tb.rx 5\nundo\n" + SCRIPT, "named": "rename tb.rx volts\n", "timed": "shift tb.rx 0.003ms\n",
+    "packed": gzip.compress(LINE.encode()), "faulty": "#0\n", "torn": LINE + "#9\n",
+    "some": "value tb.rx 5\nundo\n" + SCRIPT, "timed": "shift tb.rx 0.003ms\n",
     "wild": "value %s 3\nvalue x\0y 3\n" % ("x" * 2**17), "asks": "# a comment\n\n  changes tb.rx \nvalue tb.rx 5\n",
 }
 LINKS = {"link": "sub/p", "lost": "nowhere", "kept/B": "../B", "A.old": "A", "to_orig": "B.orig"}
@@ -58,7 +58,7 @@ RUNS = [
     ("asks A --into new --keep tb.r", 1,
      ["A: not written: UnmetPattern: a pattern matches no variable's full name"], {},
      "\n    no variable's full name is tb.r\n      near: tb.rx\n"),
-    ("script A --into A/x --dry-run", 4, ["A: not written: FOLDER/A/x: Not a directory"], {}),
+    ("script A --into A/x --dry-run", 4, ["A: not written: FOLDER/A is no folder in which files may be made"], {}),
     ("script " + shlex.quote("./" + ODD), 0, ["./\N{EURO SIGN} odd\\x0a-name: written: 1 ok"], {ODD: DONE}),
     ("script faulty A --jobs 4", 3, ["1 written, 1 not, status 3", "A: written: 1 ok", GLOB[1]], {"A": DONE}, "line 1"),
     ("some A", 1, ["A:1: 0", "A: as it was: 1 line refused"], {}, "A: some line 2: undo: NothingToUndo\n"),
@@ -84,11 +84,10 @@ RUNS = [
      "A: line 2: frob: UnknownCommand\n", "B: line 2: frob: UnknownCommand\n"),
     ("script A --mark", 0, ["A: written: 1 ok"], {"A": DONE.replace("$enddefinitions", MARK + "$enddefinitions")}),
     ("script A --mark --dry-run", 0, ["A: would be written: 1 ok"], {}),
-    ("named A --dry-run", 1, ["A: as it was: NameOfSkipped: a signal would get the full name of a variable that is not "
-     "edited"], {}),
+    ("script inuse/p", 4, ["inuse/p: as it was: OutputInUse: another run writes the output; if none does, remove "
+     ".NAME.vcdedit"], {}, "inuse/.p.vcdedit: is there already\n"),
     # What is refused as a whole.
     ("script packed", 3, ["packed: as it was: the file is packed by gzip: gzip -dc FILE > NEW.vcd"], {}),
-    ("script analog", 3, ["analog: as it was: line 5: A0: -10 V: BadChange"], {}, "perhaps a sample of an analog"),
     ("script torn", 3, ["torn: as it was: line 5: #9: TimeBackwards"], {}, "cut off"),
     ("none A", 4, [], {}, "none: No such file"), ("sub A", 4, [], {}, "sub: Is a directory"),
     *(("script A --%s ''" % word, 2, [], {}, "--into and --backup want a word") for word in ("into", "backup")),
@@ -115,8 +114,6 @@ STAYS = {
     "sub/p --into kept": "not written: FOLDER/kept/p is the capture, or no regular file",
     "A --into .": "not written: FOLDER/A is the capture, or no regular file",
     "A.old --backup .old": "as it was: is a backup: its name ends in .old",
-    "A --backup " + "x" * 255: "as it was: FOLDER/A%s: File name too long" % ("x" * 255),
-    "inuse/p": "as it was: OutputInUse: FOLDER/inuse/.p.vcdedit is in the way",
     "A 7<>A": "as it was: " + WRITER,
     NO_TEXT: "as it was: its path is no UTF-8 text, which vcdedit-amend wants",
 }
@@ -246,16 +243,13 @@ def fails():
 def remarks():
     """What is remarked on lines and on the output is told of each capture, once."""
     output = "output: removed, but another variable of the same code stays: top.secret"
-    act = r"case $* in *--quiet*) ;; *) printf 'vcdedit-amend: memory may run out: 1 GB\nline 3: seen\n' >&2 ;; esac; "
-    act += "case $* in *--quiet*) ;; *-o*) echo '%s' >&2 ;; esac" % output
+    act = r"case $* in *--quiet*) ;; *) printf 'vcdedit-amend: memory may run out: 1 GB\nline 3: seen\n' >&2; "
+    act += "echo '%s' >&2 ;; esac" % output
     place = Folder("remarks", {"A": LINE, "script": "bad\n" + SCRIPT}, ANY, act)
     told = "A: script line 2: seen\n", "A: script line 1: bad: UnknownCommand\n", "A: %s\n" % output
-    yield place.check("script A --dry-run", 1, ["A: as it was: 1 line refused"], {}, *told[:2])
-    lines = ["A: would be written: 1 ok, 1 line refused"]
-    yield place.check("script A --keep-going --dry-run -q", 1, lines, {}, told[1])
-    for words, what, texts in ((" --dry-run", "would be written", {}), ("", "written", {"A": DONE})):
-        lines = ["A: %s: 1 ok, 1 line refused" % what]
-        yield place.check("script A --keep-going" + words, 1, lines, texts, *told)
+    runs = (" -q --dry-run", "would be written", {}, told[1:2]), ("", "written", {"A": DONE}, told)
+    for words, what, texts, lines in runs:
+        yield place.check("script A --keep-going" + words, 1, ["A: %s: 1 ok, 1 line refused" % what], texts, *lines)
     # More than a pipe holds, before the first reply.
     place = Folder("remarks/many", {"A": LINE, "script": "deglitch tb.rx 3\nundo\n" * 2000 + "bad\n"})
     status, _, errors = place.run("script A --keep-going")

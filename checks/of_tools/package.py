@@ -18,7 +18,7 @@ NAMES = [
 # What is run after installing, in another folder, the status and what is shown. Each calls the program next to it.
 RUN = [
     ("vcdedit-amend /dev/null", 4, "NotAFile"), ("vcdedit-table /dev/null list", 3, "line 1: : Truncated"),
-    ("vcdedit-compare /dev/null /dev/null", 2, "line 1: : Truncated"),
+    ("vcdedit-compare /dev/null /dev/null", 2, "A: capture line 1: Truncated"),
     ("vcdedit-view /dev/null -o none.vcd", 3, "line 1: : Truncated"),
     ("vcdedit-apply /dev/null /etc/passwd", 3, "line 1: .*: UnexpectedWord"),
 ]

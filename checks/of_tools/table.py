@@ -111,6 +111,8 @@ def check():
     yield same("remarks, once", [line["remarks"] for line in lines], [REMARKS] * 2)
     (line,) = json.loads(table("-", "--json", "spi c d - s 0 2 msb", given=SELECTED)[1])
     yield same("selections", [(row["first"], row["selection"]) for row in line["rows"]], [(1, 1), (5, 1), (11, 2)])
+    (line,) = json.loads(table(I2C, "--json", "--from", "204", "--to=400us", I2C_LINE)[1])
+    yield same("a part", [(row["first"], row["last"]) for row in line["rows"]], [(1, 191)])
     yield same("no rows", [table(I2C, *form, "list")[1] for form in ([], ["--json"])], ["", "[\n]\n"])
     for tick, timescale, wanted in TIMES:
         yield same("%d at %s" % (tick, timescale), module_of(TOOL).microseconds(tick, timescale), wanted)

@@ -81,6 +81,14 @@ pub fn script_path(path: &str) -> &str {
     if path == "-" { "/dev/stdin" } else { path }
 }
 
+/// Whether a path means standard input, as none does.
+pub fn is_standard_input(path: Option<&str>) -> bool {
+    match named_path(path) {
+        Some(path) => path == "/dev/stdin",
+        None => true,
+    }
+}
+
 /// The path of a file, if it does not mean standard input.
 fn named_path(path: Option<&str>) -> Option<&str> {
     match path {

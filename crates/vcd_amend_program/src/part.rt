@@ -10,7 +10,7 @@ ghost use Rattle.vcd_amend_program.specs.inside.Jobs.{HasDepth, IsReady};
 use crate::amend_error::{AmendError, NO_MEMORY, NO_PART_FILE, NO_SCRIPT, NOT_READ};
 use crate::capture_mark::{digest_of, head_of, part_lines};
 use crate::command_line::Options;
-use crate::inputs::{find_file, inputs_of, open_input, script_path};
+use crate::inputs::{find_file, inputs_of, is_standard_input, open_input, script_path};
 use crate::job::{Job, PartJob, run_of};
 use crate::near::tell_unmet;
 use crate::part_remarks::remark_on_part;
@@ -98,7 +98,7 @@ fn run_opened<R: Runtime<File = File> + AllocGlobal>(
     match part.job.options.script {
         Some(script) => {
             // before the part is taken, which may last
-            look_at_script(rt, script_path(script))?;
+            look_at_script(rt, path, script_path(script))?;
             run_on_part(rt, &mut source, part)
         }
         None if part.job.options.is_marked => run_on_part(rt, &mut source, part),
@@ -106,10 +106,18 @@ fn run_opened<R: Runtime<File = File> + AllocGlobal>(
     }
 }
 
-/// Refuses a run whose script is not there.
-fn look_at_script<R: Runtime + AllocGlobal>(rt: &R, path: &str) -> Result<(), AmendError>
+/// Refuses a run whose script is not there, or is standard input as its capture.
+fn look_at_script<R: Runtime + AllocGlobal>(
+    rt: &R,
+    capture: Option<&str>,
+    path: &str,
+) -> Result<(), AmendError>
     ensures { IfErr result (λ e. e ≡ NO_SCRIPT) }
 {
+    if is_standard_input(capture) && is_standard_input(Some(path)) {
+        let _ = eprintln!(rt; "vcdedit-amend: script: standard input is the capture");
+        return Err(NO_SCRIPT);
+    }
     if let Err(error) = fs::metadata(rt, path) {
         tell_reason(rt, path, &error);
         return Err(NO_SCRIPT);

@@ -13,7 +13,7 @@ use crate::amend_error::{AmendError, NOT_READ};
 use std::rt::Runtime;
 use vcd_amend_run::{AmendRunError, Passes};
 use vcd_core::Source;
-use vcd_devices::{Pass, Summed, Watch, open_pass, tell_reason};
+use vcd_devices::{Pass, Summed, Watch, open_first_pass, open_pass, tell_reason};
 use vcd_replace::SeenFile;
 
 /// Looks at the capture, which is to be a regular file.
@@ -47,7 +47,7 @@ pub fn open_passes<'a, R: Runtime + AllocGlobal>(
     let again = watch.line_with_forecast("reads other changes");
     let writes = watch.line("writes the output");
     Ok(Passes {
-        declarations: open_pass(rt, capture, compares).map_err(|_| NOT_READ)?,
+        declarations: open_first_pass(rt, capture, compares).map_err(|_| NOT_READ)?,
         outline: open_pass(rt, capture, reads).map_err(|_| NOT_READ)?,
         changes: open_pass(rt, capture, again).map_err(|_| NOT_READ)?,
         copy: open_pass(rt, capture, writes).map_err(|_| NOT_READ)?,

@@ -1,6 +1,6 @@
 //! The hollow capture of a file: all signals, of which some have their changes.
 
-ghost use Rattle.std.specs.Prelude.{◌≡◌, ◌≤◌, ◌+◌, false, true, length, map, ℕ, List, IfOk};
+ghost use Rattle.std.specs.Prelude.{◌≡◌, ◌≤◌, false, true, length, map, IfOk};
 ghost use Rattle.std.specs.Prelude.{IfErr, IfSome, OnOk};
 ghost use Rattle.std.specs.Io.KnownBytes.{IsAtEnd};
 ghost use Rattle.vcd_core.specs.CaptureContents.{contents, signal_contents};
@@ -8,21 +8,17 @@ ghost use Rattle.vcd_core.specs.Outline as spec;
 ghost use Rattle.vcd_core.specs.Outline.{without_changes};
 ghost use Rattle.vcd_core.specs.Sound.{IsSound};
 ghost use Rattle.vcd_copy.specs.CopyEnds.{ReadFails};
-ghost use Rattle.vcd_text.specs.Words.{WordOnLine as WordInFile};
-ghost use Rattle.vcd_text.specs.LentWords.{words_left};
-ghost use Rattle.vcd_text.specs.LineFeeds.{line_feeds_in};
 ghost use Rattle.vcd_text.specs.declared.reading.TheConstants.{LONG_FILE_LIMIT};
-ghost use Rattle.vcd_text.specs.inside.reading.Parser.{HasTakenWords, CanTake, AllWordsResult};
 ghost use Rattle.vcd_text.specs.inside.reading.Parser.{is_complete};
 ghost use Rattle.vcd_text.specs.inside.reading.Variables.{VariablesMatch};
 ghost use Rattle.vcd_text.specs.Grammar.{ParseState};
-ghost use Rattle.vcd_amend_run.specs.inside.HeardNames.{hears, asked_for, hollow_by};
+ghost use Rattle.vcd_amend_run.specs.inside.HeardNames.{hears, hollow_by};
 ghost use Rattle.vcd_amend_run.specs.inside.HollowReading.{MeansHollow, IsReadBy};
 
 use crate::heard_names::HeardNames;
 use std::alloc::Global;
 use vcd_core::{Capture, END_LIMIT, FullName, NoMemory, SIGNAL_LIMIT, Signal, Source, Wave};
-use vcd_text::{FileReader, LONG_FILE_LIMIT, Listener, Parser, ReadError, Words, take_word};
+use vcd_text::{FileReader, LONG_FILE_LIMIT, Parser, PartListener, ReadError};
 
 /// The hollow capture of a file, and the number of its skipped variables.
 #[derive(Drop)]
@@ -52,62 +48,11 @@ pub fn read_hollow<R: Source>(
     ensures fails { IfErr result (ReadFails SIGNAL_LIMIT LONG_FILE_LIMIT (R.coming reader.old)
         (R.coming reader.new) (R.has_failed reader.new)) }
 {
-    let mut listener = NameListener { names };
+    let mut listener = PartListener { choice: names };
     let limit = SIGNAL_LIMIT as u32;
     let progress = FileReader::read_chunks(alloc, reader, &mut listener, limit, LONG_FILE_LIMIT)?;
     let parser = progress.finish(alloc, &mut listener)?;
     Ok(into_hollow(alloc, parser, names)?)
-}
-
-/// What has the parser keep the changes of the signals whose names are heard.
-#[derive(Drop)]
-struct NameListener<'a> {
-    names: &'a HeardNames,
-}
-
-impl<'a> Listener for NameListener<'a> {
-    ghost use Rattle.std.specs.Prelude.{◌≡◌};
-    ghost use Rattle.vcd_amend_run.specs.inside.HeardNames.{asked_for};
-
-    ghost asked = { λ l. asked_for l.names.now };
-
-    ghost has_heard = { λ _ start now _ _. now.names.now ≡ start.names.now };
-
-    fn take_words(
-        &mut self,
-        alloc: Global,
-        parser: &mut Parser,
-        words: Words,
-    ) -> Result<u64, ReadError> {
-        read_words(parser, alloc, self.names, words)
-    }
-
-    fn is_done(&self) -> bool {
-        false
-    }
-}
-
-/// Takes words one after another, up to the first that shows a fault. Returns the number of line
-/// feeds before the end of their text.
-fn read_words(
-    parser: &mut Parser,
-    alloc: Global,
-    names: &HeardNames,
-    words: Words,
-) -> Result<u64, ReadError>
-    requires { (limit : ℕ) × CanTake limit (asked_for names.now) parser.old (words_left words) }
-    ensures words { (limit : ℕ) (words_so_far : List WordInFile) →
-        HasTakenWords limit (asked_for names.now) parser.old words_so_far →
-        AllWordsResult limit (asked_for names.now) words_so_far (words_left words.entry) result
-        parser.new }
-    ensures line_feeds { IfOk result (λ line_feeds.
-        line_feeds ≡ words.entry.line_feeds + line_feeds_in words.entry.rest.now) }
-{
-    let mut left = words;
-    while let Some(word) = left.next_word() {
-        take_word(parser, alloc, names, word.text, word.line)?;
-    }
-    Ok(left.line_feeds)
 }
 
 /// The hollow capture that a file means, once its last word has been taken.

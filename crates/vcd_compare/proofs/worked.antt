@@ -1,3 +1,4 @@
 -- Worked cases.
+pub mod Captures
 pub mod Differences
 pub mod ShortestRun

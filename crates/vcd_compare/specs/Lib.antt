@@ -3,4 +3,6 @@ pub mod Differences
 pub mod ShortestRun
 pub mod Laws
 pub mod Pairs
+pub mod Captures
+pub mod Comparisons
 pub mod inside

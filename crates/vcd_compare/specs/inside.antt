@@ -4,3 +4,11 @@ pub mod Pairing
 pub mod WavePair
 pub mod Occurrences
 pub mod Pairs
+pub mod Side
+pub mod Walk
+pub mod WalkSteps
+pub mod Matching
+pub mod Outcomes
+pub mod Planning
+pub mod Times
+pub mod Comparing

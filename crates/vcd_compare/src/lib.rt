@@ -1,24 +1,40 @@
 //! Compares two captures signal by signal, tick by tick.
 //!
-//! A [`WaveComparison`] finds the [`Differences`] of two waves, change by change, and a
-//! [`ShortestRun`] the shortest run of one. `compare_changes` compares two lists of changes, and
-//! `partners` finds which signals are a pair.
+//! [`compare`] reads two files once, side by side, and tells of each signal of the first capture
+//! what a [`CompareRequest`] asks for. A [`WaveComparison`] finds the [`Differences`] of two waves,
+//! change by change, a [`ShortestRun`] the shortest run of one, and `partners` which signals are a
+//! pair.
 #![tactic(auto)]
 
+mod comparing;
+mod comparison;
 mod differences;
 mod laws;
+mod matching;
+mod names;
 mod occurrences;
+mod outcomes;
 mod pairing;
 mod pairs;
+mod planning;
+mod request;
 mod shortest_run;
+mod side;
+mod times;
+mod timescales;
+mod walk;
 mod wave_comparison;
 mod wave_pair;
 
+pub use comparing::compare;
+pub use comparison::{CompareError, ComparedCapture, Comparison, Outcome};
 pub use differences::{Difference, Differences};
 pub use laws::{
     finds_each_difference, only_the_window_counts, partners_are_mutual, same_within_tolerance,
     same_without_tolerance,
 };
 pub use pairing::partners;
+pub use pairs::ComparedPair;
+pub use request::{CompareRefusal, CompareRequest, NameMap};
 pub use shortest_run::ShortestRun;
 pub use wave_comparison::WaveComparison;

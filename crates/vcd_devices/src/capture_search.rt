@@ -27,8 +27,6 @@ enum Place {
     Declarations,
     /// `$comment` of the declarations.
     Comment,
-    /// The first word of a mark among the declarations, and perhaps more of its words.
-    Mark,
     /// More words of a declaration, or of a comment.
     Within,
     /// `$enddefinitions`.
@@ -70,19 +68,6 @@ impl CaptureSearch {
         self.has_mark
     }
 
-    /// Whether the words so far end within a mark of the declarations.
-    pub fn is_in_mark(&self) -> bool {
-        matches!(self.place, Place::Mark)
-    }
-
-    /// Whether the declarations have ended.
-    pub fn is_past_declarations(&self) -> bool {
-        matches!(
-            self.place,
-            Place::LastDeclaration | Place::Body | Place::FirstComment | Place::Over
-        )
-    }
-
     /// Whether bytes have come, and the last one is no line feed.
     pub fn ends_within_line(&self) -> bool {
         matches!(self.last, Some(byte) if byte != b'\n')
@@ -102,7 +87,7 @@ impl CaptureSearch {
     }
 
     /// Takes one byte more.
-    pub fn take(&mut self, byte: u8) {
+    fn take(&mut self, byte: u8) {
         if is_white_space(byte) {
             self.end_word();
             return;
@@ -119,7 +104,7 @@ impl CaptureSearch {
             return;
         }
         let word = self.word.get(..self.len).unwrap_or(b"");
-        if self.place.is_comment() && is_first_of_mark(word) {
+        if self.place.is_comment() && word == b"vcdedit-amend".as_slice() {
             self.has_mark = true;
         }
         self.place = next_place(self.place, word);
@@ -139,19 +124,12 @@ fn next_place(place: Place, word: &[u8]) -> Place {
     let ends = word == b"$end".as_slice();
     match place {
         Place::Declarations => begun_declaration(word),
-        Place::Comment | Place::Mark | Place::Within if ends => Place::Declarations,
-        Place::Comment if is_first_of_mark(word) => Place::Mark,
-        Place::Mark => Place::Mark,
+        Place::Comment | Place::Within if ends => Place::Declarations,
         Place::Comment | Place::Within => Place::Within,
         Place::LastDeclaration if ends => Place::Body,
         Place::Body if word == b"$comment".as_slice() => Place::FirstComment,
         Place::LastDeclaration | Place::Body | Place::FirstComment | Place::Over => Place::Over,
     }
-}
-
-/// Whether a word is the first one of a mark, after `$comment`.
-fn is_first_of_mark(word: &[u8]) -> bool {
-    word == b"vcdedit-amend".as_slice()
 }
 
 /// What words end with of which this one begins a declaration.

@@ -2,15 +2,13 @@
 //! writes.
 //!
 //! A capture is opened once for each [`Pass`] over it. A pass is [`Watched`]: it shows how far it
-//! is, tells if memory may run out, and finds what there is to tell of the capture. [`Summed`]
-//! passes over one file have one sum. A [`SafeFile`] takes the place of another file when it is
-//! whole, [`Compared`] takes only the bytes of another file, a [`PartFile`] holds a part for the
-//! time of a run, and [`Remarks`] go to standard error. Whatever can't be opened, read or written
-//! tells the reason there.
+//! is, tells if memory may run out, and the first one finds what there is to tell of the capture.
+//! [`Summed`] passes over one file have one sum. A [`SafeFile`] takes the place of another file
+//! when it is whole, a [`PartFile`] holds a part for the time of a run, and [`Remarks`] go to
+//! standard error. Whatever can't be opened, read or written tells the reason there.
 #![tactic(auto)]
 
 mod capture_search;
-mod compared;
 mod laws;
 mod memory_forecast;
 mod other_format;
@@ -24,11 +22,10 @@ mod summed;
 mod watched;
 
 pub use capture_search::{CaptureSearch, tell_earlier_mark, tell_unended_line};
-pub use compared::{CompareFault, Compared};
 pub use laws::one_other_byte_shows;
 pub use other_format::tell_other_format;
 pub use part_file::PartFile;
-pub use pass::{Pass, open_pass};
+pub use pass::{Pass, open_first_pass, open_pass};
 pub use progress::{ProgressLine, Watch};
 pub use reasons::tell_reason;
 pub use remarks::Remarks;

@@ -12,8 +12,8 @@ use vcd_core::{DeviceFault, Source};
 
 /// A source over a reader, as `FromRead` of `vcd_core`: nothing is tried again.
 ///
-/// What comes is searched for what there is to tell of a capture, and the line on the pass shows
-/// how far it is. If the reader fails, standard error has the reason.
+/// What comes is searched for what there is to tell of a capture, if that is wanted, and the line
+/// on the pass shows how far it is. If the reader fails, standard error has the reason.
 #[derive(Drop)]
 pub struct Watched<'a, R, F> {
     rt: &'a R,
@@ -22,7 +22,8 @@ pub struct Watched<'a, R, F> {
     path: Option<&'a str>,
     failed: bool,
     line: ProgressLine,
-    search: CaptureSearch,
+    // none if nothing is looked for
+    search: Option<CaptureSearch>,
 }
 
 impl<'a, R: Runtime + AllocGlobal, F: Read> Watched<'a, R, F> {
@@ -37,13 +38,22 @@ impl<'a, R: Runtime + AllocGlobal, F: Read> Watched<'a, R, F> {
             path,
             failed: false,
             line,
-            search: CaptureSearch::new(),
+            search: Some(CaptureSearch::new()),
         }
+    }
+
+    /// The same source, in whose bytes nothing is looked for.
+    pub fn unsearched(mut self) -> Watched<'a, R, F>
+        ensures { ⟦<Watched<'a, R, F> as Source>⟧.has_failed result
+            ≡ ⟦<Watched<'a, R, F> as Source>⟧.has_failed self.entry }
+    {
+        self.search = None;
+        self
     }
 
     /// What was found in the bytes that have come.
     pub fn search(&self) -> CaptureSearch {
-        self.search
+        self.search.unwrap_or(CaptureSearch::new())
     }
 
     /// Takes the line from the terminal, if it is there.
@@ -63,7 +73,9 @@ impl<'a, R: Runtime + AllocGlobal, F: Read> Source for Watched<'a, R, F> {
         }
         match self.reader.read(buffer) {
             Ok(count) => {
-                self.search.go_on(&buffer[..count]);
+                if let Some(search) = &mut self.search {
+                    search.go_on(&buffer[..count]);
+                }
                 self.line.add(self.rt, count as u64);
                 Ok(count)
             }

@@ -27,9 +27,10 @@ mod window;
 mod written_part;
 
 pub use laws::part_is_read_again;
-pub use named_variable::NamedVariable;
+pub use named_variable::{NamedVariable, copy_name};
 pub use part::{PartError, write_part};
 pub use pattern::meets;
+pub use patterns::Patterns;
 pub use request::{Refusal, Request};
-pub use time::{Time, time_asked, time_of};
+pub use time::{Time, femtoseconds, ticks_of, time_asked, time_of};
 pub use written_part::WrittenPart;

@@ -37,7 +37,7 @@ pub fn note_named_variable(
 }
 
 /// The bytes of a full name, in memory of their own.
-fn copy_name(alloc: Global, name: FullName<'_>) -> Result<Word, NoMemory>
+pub fn copy_name(alloc: Global, name: FullName<'_>) -> Result<Word, NoMemory>
     ensures { IfOk result (λ word. word ≡ name_bytes name.entry) }
 {
     let mut left = name;

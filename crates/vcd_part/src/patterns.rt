@@ -3,7 +3,7 @@
 ghost use Rattle.std.specs.Prelude.{◌≡◌, ◌++◌, ◌∷◌, [], ℕ, List, map, not, find, option_map};
 ghost use Rattle.std.specs.Prelude.{IfOk, slice_set, slice_index_or, true, false};
 ghost use Rattle.std.specs.Option.{unwrap_or};
-ghost use Rattle.std.specs.List.{list_any};
+ghost use Rattle.std.specs.List.{list_any, position};
 ghost use Rattle.vcd_core.specs.FullName.{name_bytes};
 ghost use Rattle.vcd_part.specs.Pattern as spec;
 ghost use Rattle.vcd_part.specs.Requests.{meets_one, texts};
@@ -45,6 +45,15 @@ impl<'m, 'a> Patterns<'m, 'a> {
             Some(patterns) => note_met(patterns, &mut self.met, name),
             None => otherwise,
         }
+    }
+
+    /// The position of the first pattern that no name has met.
+    pub fn unmet_position(&self) -> Option<usize>
+        ensures { (names : List (List ℕ)) → HaveMet self.now names →
+            result ≡ position (λ p. not (list_any (spec.meets p) names))
+            (unwrap_or (texts self.now.patterns) []) }
+    {
+        self.met.iter().position(|is_met| !*is_met)
     }
 
     /// The first pattern that no name has met.

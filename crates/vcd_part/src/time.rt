@@ -127,7 +127,7 @@ pub fn ticks_of(time: Time, timescale: Option<Timescale>) -> Option<u64>
 }
 
 /// The femtoseconds of a unit.
-fn femtoseconds(unit: TimeUnit) -> u128
+pub fn femtoseconds(unit: TimeUnit) -> u128
     ensures value { result ≡ spec.femtoseconds unit }
     ensures most { result ≤ 10 ^ 15 }
 {

@@ -25,6 +25,7 @@ pub use reading::choice::Unheard;
 pub use reading::file_reader::{FileReader, take_word};
 pub use reading::listener::Listener;
 pub use reading::parser::{OpenItem, Parser};
+pub use reading::part_listener::PartListener;
 pub use reading::{
     ChangeStream, ChangeTarget, Choice, CodeTargets, Declarations, DeclaredSignal, FILE_LIMIT,
     HeardChange, HeardChanges, LONG_FILE_LIMIT, Loaded, TickRange, VARIABLE_LIMIT, read, read_part,

@@ -30,7 +30,7 @@ pub(crate) mod listener;
 mod log;
 pub(crate) mod parser;
 pub(crate) mod part;
-mod part_listener;
+pub(crate) mod part_listener;
 mod read_buffer;
 mod scopes;
 mod ticks_and_sizes;

@@ -432,6 +432,7 @@ impl<'a, W: Sink> Amender<W> for FileAmender<'a> {
 
     ghost is_done = { λ _. false };
 
+    #[inline(always)]
     fn settle(&mut self, item: AmendableItem, code: &[u8]) -> InPlace {
         match item {
             AmendableItem::Variable => InPlace::Other,

@@ -122,7 +122,7 @@ nth_there name count at (x ∷ xs) (suc j) k place is =
 
 -- ==== partners
 
-later : (p : ℕ → Bool) (at j : ℕ) → at ≤ j → p at ≡ false → p j ≡ true → at + 1 ≤ j
+pub later : (p : ℕ → Bool) (at j : ℕ) → at ≤ j → p at ≡ false → p j ≡ true → at + 1 ≤ j
 later p at j from off passes =
     elim (cases_eq at j) [
       | inl e ↦ absurd (both_ways (p at) off (ap p e ∙ passes))
@@ -196,8 +196,16 @@ module _ (names others : List (List ℕ)) (k : ℕ) where
   pub partner_by_position : partner_of names others k ≡ slice_get (positions_from own_name 0 others) own_count
   partner_by_position = by_position (slice_get (positions_from own_name 0 others) own_count) refl
 
+-- a partner is one of the signals
+pub partner_within : (names others : List (List ℕ)) (k j : ℕ) → partner_of names others k ≡ Some j → j < length others
+partner_within names others k j is =
+    let (i, at, nth) = nth_from (name_at names k) (namesakes_before names k) 0 others j
+    (sym (partner_by_position names others k) ∙ is) in
+    let within = nth.within in
+    omega arith
+
 -- a signal is the partner of its partner
-partner_back : (names others : List (List ℕ)) (k j : ℕ) → k < length names → partner_of names others k ≡ Some j
+pub partner_back : (names others : List (List ℕ)) (k j : ℕ) → k < length names → partner_of names others k ≡ Some j
     → partner_of others names j ≡ Some k
 partner_back names others k j within is =
     let (i, at, nth) = nth_from (name_at names k) (namesakes_before names k) 0 others j

@@ -1,5 +1,5 @@
 -- The pairs of a variable change one after another, from the last one on.
-use Rattle.std.proofs.Common.{◌≡◌, ◌≢◌, ℕ, ◌+◌, ◌<◌, ◌≤◌, Some, None, Option, List, [], ◌∷◌, length, map, get_or, refl}
+use Rattle.std.proofs.Common.{◌≡◌, ◌≢◌, ℕ, ◌<◌, ◌≤◌, Some, None, List, [], ◌∷◌, length, map, get_or, refl}
 use Rattle.std.proofs.Common.{sym, ap}
 use Rattle.std.proofs.Common.{◌∙◌, arith, inl, inr, subst, set}
 use Rattle.std.proofs.lemmas.List.{length-map, ext_get_or, get_or-map, get_or_default, get_or-set_same}

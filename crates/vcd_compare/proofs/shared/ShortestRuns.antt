@@ -14,7 +14,7 @@ use Rattle.vcd_compare.specs.declared.shortest_run.ShortestRun.{ShortestRun}
 
 -- ==== ticks
 
-range_split : (a m n later all : ℕ) → a + m ≡ later → m + n ≡ all
+pub range_split : (a m n later all : ℕ) → a + m ≡ later → m + n ≡ all
     → range_with_len a all ≡ range_with_len a m ++ range_with_len later n
 range_split a zero n later all at size =
     let start : a ≡ later = omega arith in

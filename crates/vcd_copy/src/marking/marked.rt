@@ -42,6 +42,7 @@ impl<'a, W: Sink, A: Amender<W>> Amender<W> for Marked<'a, A> {
 
     ghost is_done = { λ m. A.is_done m.amender };
 
+    #[inline(always)]
     fn settle(&mut self, item: AmendableItem, code: &[u8]) -> InPlace {
         match mark_before(self.mark, item) {
             Some(_) => InPlace::Other,

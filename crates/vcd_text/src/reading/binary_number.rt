@@ -53,6 +53,7 @@ pub fn value_of_digits(width: u64, digits: &[u8]) -> Option<Value>
 }
 
 /// Refuses digits that are no value of `width` bits, as `read_value` does.
+#[inline(always)]
 pub fn check_digits(width: u64, digits: &[u8]) -> Result<(), Fault>
     ensures { MatchResult result (λ _. IsTrue (is_binary_number digits.now)
         × (length digits.now ≤ width))

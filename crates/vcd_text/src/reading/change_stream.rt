@@ -1,11 +1,11 @@
 //! The changes of a file while it is read, in the order of the file.
 
 ghost use Rattle.std.specs.Prelude.{◌≡◌, ◌<◌, ℕ, List, [], true, false, Some, Option, IfOk, IfErr};
-ghost use Rattle.std.specs.Prelude.{OnOk, IfSome, map, slice_get};
+ghost use Rattle.std.specs.Prelude.{OnOk, IfSome, map, slice_get, count_by};
 ghost use Rattle.std.specs.Io.KnownBytes.{IsAtEnd};
 ghost use Rattle.vcd_core.specs.declared.capture.TheConstants.{SIGNAL_LIMIT};
 ghost use Rattle.vcd_text.specs.Grammar.{ParseState, VariableDeclaration, initial_state};
-ghost use Rattle.vcd_text.specs.Grammar.{kept_variables};
+ghost use Rattle.vcd_text.specs.Grammar.{is_skipped, kept_variables};
 ghost use Rattle.vcd_text.specs.HeardChanges.{HeardChange, first_with};
 ghost use Rattle.vcd_text.specs.Refusals.{IsRefusal};
 ghost use Rattle.vcd_text.specs.declared.fault.Fault.{Fault};
@@ -107,6 +107,14 @@ impl ChangeStream {
         ensures { (state : ParseState) → IsStreamAt self.now state → result ≡ state.tick }
     {
         self.reader.parser.tick
+    }
+
+    /// How many variables so far are skipped.
+    pub fn skipped(&self) -> u64
+        ensures { (state : ParseState) → IsStreamAt self.now state →
+            result ≡ count_by is_skipped state.declared }
+    {
+        self.reader.parser.variables.skipped
     }
 
     /// The timescale so far.

@@ -6,7 +6,7 @@ ghost use Rattle.vcd_core.specs.BlockRows.{HoldsLetters};
 ghost use Rattle.vcd_text.specs.Letters.{is_binary_digit, letters_of_digits};
 ghost use Rattle.vcd_text.specs.inside.reading.DigitBlocks.{AddsLetters, is_two_state};
 
-use crate::reading::digits::{is_two_state, letter_of_digit, two_state_letter};
+use crate::reading::digits::{are_two_state, is_two_state, letter_of_digit, two_state_letter};
 use vcd_core::{Bit, LetterBlock};
 
 /// The letters of at most 64 digits, after as many `pad` as are missing; none if one is no binary
@@ -52,18 +52,6 @@ fn with_eight_digits(block: LetterBlock, digits: &[u8; 8]) -> Option<LetterBlock
         return Some(with_two_state_digits(block, digits));
     }
     with_digits(block, digits)
-}
-
-/// Whether all digits are 0 or 1.
-fn are_two_state(digits: &[u8; 8]) -> bool
-    ensures { result ≡ list_all is_two_state digits.now }
-{
-    let mut all = true;
-    for digit in digits {
-        // no early end, so that the test of eight digits is one comparison
-        all &= is_two_state(*digit);
-    }
-    all
 }
 
 /// The block with the letters of eight digits, each 0 or 1, added at its low end.

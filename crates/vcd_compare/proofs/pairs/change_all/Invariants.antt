@@ -1,5 +1,5 @@
 -- The pairs from a bound on have changed, and the next one to change is the last of the variable before it.
-use Rattle.std.proofs.Common.{◌≡◌, ℕ, ◌≤◌, ◌+◌, Option, Some, None, List, length, map}
+use Rattle.std.proofs.Common.{ℕ, ◌≤◌, ◌+◌, Option, Some, None, length, map}
 use Rattle.vcd_compare.specs.inside.Occurrences.{HasOccurrences, IsLastPlace}
 use Rattle.vcd_compare.specs.inside.Pairs.{variable_in}
 use Rattle.vcd_compare.proofs.pairs.Changes.{AreChangedFrom}

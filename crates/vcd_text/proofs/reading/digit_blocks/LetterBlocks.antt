@@ -2,6 +2,7 @@
 -- row with one more block.
 use Rattle.std.proofs.Common.{◌≡◌, ℕ, zero, suc, ◌+◌, ◌-◌, ◌*◌, ◌/◌, ◌%◌, ◌<◌, ◌≤◌, true, false, if◌then◌else◌, List}
 use Rattle.std.proofs.Common.{[], ◌∷◌, ◌++◌, length, take, drop, get_or, refl, sym, ap, ◌∙◌, arith, inl, inr, add-one}
+use Rattle.std.proofs.Common.{rules}
 use Rattle.std.specs.Prelude.{unwrap_or, MatchOption, Option, Some, None}
 use Rattle.std.specs.List.{list_all}
 use Rattle.std.specs.Simd.{first_chunks}
@@ -20,7 +21,8 @@ use Rattle.vcd_core.specs.declared.letter_block.LetterBlock.{LetterBlock}
 use Rattle.vcd_core.specs.BlockRows.{letter_in, letter_or, letters_of, block_at, HoldsLetters}
 use Rattle.vcd_core.proofs.shared.LettersOfPlanes.{same_letter_at, length-letters_of, letter_at-letters_of, one_block}
 use Rattle.vcd_text.specs.Letters.{is_binary_digit, letter_of_digit, letters_of_digits, pad_letter, extension}
-use Rattle.vcd_text.specs.inside.reading.DigitBlocks.{digits_of, AddsLetters}
+use Rattle.vcd_text.specs.inside.reading.DigitBlocks.{digits_of, AddsLetters, is_two_state}
+use Rattle.vcd_text.proofs.shared.ItemTests.{all_weaker}
 
 -- ---- one letter more
 
@@ -146,6 +148,13 @@ letters_more digits k following here =
     ap (λ n. list_all is_binary_digit (drop n digits)) start
     ∙ ap (list_all is_binary_digit) (drop_split digits (end - 64) end (omega arith))
     ∙ list_all-append is_binary_digit (digits_of digits k) (drop end digits) ∙ and_from _ _ here following
+
+pub two_states_are_digits : (digits : List ℕ) → list_all is_two_state digits ≡ true
+    → list_all is_binary_digit digits ≡ true
+two_states_are_digits digits all = all_weaker is_two_state is_binary_digit one digits all
+  where
+    one : (digit : ℕ) → is_two_state digit ≡ true → is_binary_digit digit ≡ true
+    one digit two = search rules
 
 -- if not all bytes after an index, or before it, are digits, not all are
 pub not_all_after : (n : ℕ) (digits : List ℕ) → list_all is_binary_digit (drop n digits) ≡ false

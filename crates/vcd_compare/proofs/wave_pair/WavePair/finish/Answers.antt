@@ -1,4 +1,4 @@
-use Rattle.std.proofs.Common.{◌≡◌, ℕ, sym, ◌∙◌, arith}
+use Rattle.std.proofs.Common.{sym, ◌∙◌, arith}
 use Rattle.vcd_compare.proofs.wave_pair.WavePair.finish.Goals as goal
 
 pub returns-clause-differences : goal.returns-clause-differences

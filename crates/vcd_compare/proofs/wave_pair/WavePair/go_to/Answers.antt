@@ -1,4 +1,4 @@
-use Rattle.std.proofs.Common.{◌≡◌, ℕ, sym, ◌∙◌, arith, inr}
+use Rattle.std.proofs.Common.{sym, ◌∙◌, arith, inr}
 use Rattle.vcd_compare.proofs.wave_pair.WavePair.go_to.Goals as goal
 
 pub returns-then-tick-self-clause-found : goal.returns-then-tick-self-clause-found

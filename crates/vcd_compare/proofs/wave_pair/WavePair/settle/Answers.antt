@@ -1,4 +1,4 @@
-use Rattle.std.proofs.Common.{◌≡◌, ℕ, sym, ap, ◌∙◌, subst, arith, inl, inr}
+use Rattle.std.proofs.Common.{◌≡◌, sym, ap, ◌∙◌, subst, arith, inl, inr}
 use Rattle.vcd_compare.specs.inside.WavePair.{HasFound}
 use Rattle.vcd_compare.proofs.wave_pair.WavePair.settle.Goals as goal
 

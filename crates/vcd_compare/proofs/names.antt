@@ -1,0 +1,2 @@
+-- Lemmas of `names`.
+pub mod Texts

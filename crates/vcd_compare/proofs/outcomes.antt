@@ -1,0 +1,3 @@
+-- Lemmas of `outcomes`.
+pub mod Told
+pub mod Marks

@@ -1,0 +1,2 @@
+-- Lemmas of `planning`.
+pub mod Planned

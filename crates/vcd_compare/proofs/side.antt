@@ -1,0 +1,3 @@
+-- Lemmas of `side`.
+pub mod Chunks
+pub mod ReadOn

@@ -1,0 +1,8 @@
+-- Lemmas of `walk`.
+pub mod Scaled
+pub mod GivenChanges
+pub mod Failures
+pub mod Planned
+pub mod Taken
+pub mod Reached
+pub mod Walked

@@ -1,0 +1,292 @@
+-- The walk takes the next change of a file.
+use Rattle.std.proofs.Common.{◌≡◌, ℕ, ◌<◌, ◌≤◌, ◌*◌, List, [], ◌∷◌, ◌++◌, length, get_or, Option, Some, None, min}
+use Rattle.std.proofs.Common.{refl, sym, ap, subst, ◌∙◌, arith, append_assoc, All}
+use Rattle.std.specs.Prelude.{slice_get, IsTrue, IsSomeAnd, IfSome}
+use Rattle.std.proofs.Math.Seq.{get_or-append_seam}
+use Rattle.std.proofs.lemmas.List.{length-append}
+use Rattle.std.proofs.lemmas.Option.{same_Some, slice_get_within}
+use Rattle.vcd_core.specs.declared.capture.TheConstants.{SIGNAL_LIMIT}
+use Rattle.vcd_core.specs.declared.value.TheConstants.{WIDTH_LIMIT}
+use Rattle.vcd_text.specs.Letters.{extension, letters_of_digits, value_of_digits}
+use Rattle.vcd_text.specs.Grammar.{VariableDeclaration, ParseState, initial_state, kept_variables}
+use Rattle.vcd_text.specs.HeardChanges.{HeardChange, AreHeard}
+use Rattle.vcd_text.specs.HeardLaws.{TicksRise, FitsTarget}
+use Rattle.vcd_text.specs.inside.reading.ChangeStream.{HasStreamed}
+use Rattle.vcd_text.specs.declared.reading.heard_changes.ChangeTarget.{ChangeTarget}
+use Rattle.vcd_text.specs.declared.reading.heard_changes.ChangeTarget.TheVariants.{Kept, Skipped}
+use Rattle.vcd_text.proofs.shared.HeardMeaning.{heard_fit, declarations_stay}
+use Rattle.vcd_compare.specs.inside.Pairs.{AreListed, AreAsWide, ArePairsAfter, variable_in, chosen}
+use Rattle.vcd_compare.specs.inside.Side.{at_hand, first_tick, IsHeardWhole}
+use Rattle.vcd_compare.specs.inside.WalkSteps.{scaled_ticks, ArePairsAt, IsPlan, IsWalkAt, IsSideSince, IsNextChange}
+use Rattle.vcd_compare.specs.inside.WalkSteps.{AreGiven}
+use Rattle.vcd_compare.specs.inside.WalkSteps.{earlier_tick}
+use Rattle.vcd_compare.specs.declared.wave_pair.Bounds.{Bounds}
+use Rattle.vcd_compare.specs.declared.pairs.Pairs.{Pairs}
+use Rattle.vcd_compare.specs.declared.pairs.Which.{Which}
+use Rattle.vcd_compare.specs.declared.pairs.Which.TheVariants.{First, Second}
+use Rattle.vcd_compare.specs.declared.pairs.SignalPair.{SignalPair}
+use Rattle.vcd_compare.specs.declared.side.Side.{Side}
+use Rattle.vcd_compare.specs.declared.walk.Walk.{Walk}
+use Rattle.vcd_compare.proofs.walk.GivenChanges.{all_first_given, all_second_given}
+use Rattle.vcd_compare.proofs.walk.Planned.{HaveOneSize, have_one_size, size_within, first_wide, second_wide}
+
+-- ---- a file
+
+module _ (coming left : Option (List ℕ)) (s : ParseState) (given : List HeardChange) (floor : ℕ)
+    (start old : Side) (at : IsSideSince coming left s given floor start old) where
+  -- the first of the changes at hand is from the tick on
+  next_from : (h : HeardChange) (rest : List HeardChange) → at_hand old ≡ h ∷ rest → floor ≤ h.tick * old.factor
+  next_from h rest was =
+      (subst (λ hs. TicksRise floor (at.on.later.tick * old.factor) (scaled_ticks old.factor hs)) was at.rise).0
+
+  -- it was taken
+  side_taken : (k : ℕ) (h : HeardChange) (rest : List HeardChange) → at_hand old ≡ h ∷ rest
+      → at_hand (record old { taken = k }) ≡ rest
+      → IsSideSince coming left s (given ++ h ∷ []) (h.tick * old.factor) start (record old { taken = k })
+  side_taken k h rest was now =
+      let new : Side = record old { taken = k } in
+      let later = at.on.later in
+      let moved : (given ++ h ∷ []) ++ at_hand new ≡ given ++ at_hand old =
+      append_assoc given (h ∷ []) (at_hand new) ∙ ap (λ hs. given ++ h ∷ hs) now ∙ ap (λ hs. given ++ hs) (sym was) in
+      record {
+        on = record {
+          later = later;
+          more = at.on.more;
+          heard_more = at.on.heard_more;
+          at = record {
+            at = at.on.at.at;
+            heard = subst (AreHeard (initial_state SIGNAL_LIMIT) later) (sym moved) at.on.at.heard;
+            goes_on = λ goes. subst (λ hs. HasStreamed coming left later hs old.stream) (sym moved)
+                (at.on.at.goes_on goes);
+            ended = λ ended. subst (IsHeardWhole coming later) (sym moved) (at.on.at.ended ended);
+          };
+          all = moved ∙ at.on.all;
+        };
+        rise = subst (λ hs. TicksRise (h.tick * old.factor) (later.tick * old.factor) (scaled_ticks old.factor hs))
+            (sym now)
+            (subst (λ hs. TicksRise floor (later.tick * old.factor) (scaled_ticks old.factor hs)) was at.rise).1;
+        factor = at.factor;
+      }
+
+  -- nothing was taken; what is at hand is from another tick on
+  side_waits : (tick : ℕ) → tick ≤ at.on.later.tick * old.factor
+      → IfSome (first_tick old.factor (at_hand old)) (λ n. tick ≤ n)
+      → IsSideSince coming left s given tick start old
+  side_waits tick by early = record {
+    on = at.on;
+    rise = rises_from (at_hand old) by early at.rise;
+    factor = at.factor;
+  }
+    where
+      rises_from : (hs : List HeardChange) → tick ≤ at.on.later.tick * old.factor
+          → IfSome (first_tick old.factor hs) (λ n. tick ≤ n)
+          → TicksRise floor (at.on.later.tick * old.factor) (scaled_ticks old.factor hs)
+          → TicksRise tick (at.on.later.tick * old.factor) (scaled_ticks old.factor hs)
+      rises_from [] by early rise = by
+      rises_from (h ∷ hs) by early rise = (early, rise.1)
+
+-- ---- the next tick
+
+first_is_early : (a b : Option ℕ) (tick : ℕ) → earlier_tick a b ≡ Some tick → a ≡ Some tick
+    → IfSome b (λ n. tick ≤ n)
+first_is_early a None tick is of = tt
+first_is_early None (Some n) tick is of = absurd (cc of)
+first_is_early (Some m) (Some n) tick is of =
+    let least : min m n ≡ tick = same_Some _ _ is in
+    let own : m ≡ tick = same_Some _ _ of in
+    omega (arith, least, own)
+
+second_is_early : (a b : Option ℕ) (tick : ℕ) → earlier_tick a b ≡ Some tick → b ≡ Some tick
+    → IfSome a (λ n. tick ≤ n)
+second_is_early None b tick is of = tt
+second_is_early (Some n) None tick is of = absurd (cc of)
+second_is_early (Some m) (Some n) tick is of =
+    let least : min m n ≡ tick = same_Some _ _ is in
+    let own : n ≡ tick = same_Some _ _ of in
+    omega (arith, least, own)
+
+tick_at : (factor tick : ℕ) (h : HeardChange) (rest hs : List HeardChange) → hs ≡ h ∷ rest
+    → first_tick factor hs ≡ Some tick → h.tick * factor ≡ tick
+tick_at factor tick h rest hs was of = same_Some _ _ (sym (ap (first_tick factor) was) ∙ of)
+
+-- ---- the variable of a change
+
+-- a change of a kept variable, of which the text writes a value
+record IsFitting (kept : List VariableDeclaration) (h : HeardChange) : Type 0 where
+  variable : ℕ
+  declaration : VariableDeclaration
+  target : h.target ≡ Kept variable
+  there : slice_get kept variable ≡ Some declaration
+  reads : value_of_digits declaration.size h.text
+      ≡ Some (extension declaration.size (letters_of_digits h.text))
+  within : (1 ≤ declaration.size) × (declaration.size ≤ WIDTH_LIMIT)
+  sizes : HaveOneSize kept
+
+some_and : (declared : List VariableDeclaration) (h : HeardChange) (variable : ℕ) (o : Option VariableDeclaration)
+    → slice_get (kept_variables declared) variable ≡ o → h.target ≡ Kept variable
+    → HaveOneSize (kept_variables declared)
+    → IsSomeAnd o (λ d. value_of_digits d.size h.text ≡ Some (extension d.size (letters_of_digits h.text)))
+    → IsFitting (kept_variables declared) h
+some_and declared h variable None there target sizes fits = absurd fits
+some_and declared h variable (Some d) there target sizes fits = record {
+  variable = variable;
+  declaration = d;
+  target = target;
+  there = there;
+  reads = fits;
+  within = size_within declared variable d there;
+  sizes = sizes;
+}
+
+by_target : (declared : List VariableDeclaration) (h : HeardChange) (target : ChangeTarget) → h.target ≡ target
+    → HaveOneSize (kept_variables declared) → FitsTarget declared target h.text → IsFitting (kept_variables declared) h
+by_target declared h (Kept k) is sizes fits =
+    some_and declared h k (slice_get (kept_variables declared) k) refl is sizes fits
+by_target declared h (Skipped k) is sizes fits = absurd fits
+
+all_middle : (P : HeardChange → Type 0) (xs : List HeardChange) (y : HeardChange) (ys : List HeardChange)
+    → All P (xs ++ y ∷ ys) → P y
+all_middle P xs y ys all =
+    subst P (get_or-append_seam xs y ys y) (all (length xs) y (omega (arith, length-append xs (y ∷ ys))))
+
+fitting : (state later : ParseState) (more given rest all : List HeardChange) (h : HeardChange) → IsTrue state.in_body
+    → AreHeard state later more → AreHeard (initial_state SIGNAL_LIMIT) later (given ++ all) → all ≡ h ∷ rest
+    → IsFitting (kept_variables state.declared) h
+fitting state later more given rest all h in_body on heard was =
+    let same = (declarations_stay state later more on in_body).1 in
+    let whole = subst (λ l. AreHeard (initial_state SIGNAL_LIMIT) later (given ++ l)) was heard in
+    subst (λ ds. IsFitting (kept_variables ds) h) same
+    (by_target later.declared h h.target refl (have_one_size SIGNAL_LIMIT later (given ++ h ∷ rest) whole)
+    (all_middle (λ g. FitsTarget later.declared g.target g.text) given h rest
+    (heard_fit SIGNAL_LIMIT later (given ++ h ∷ rest) whole)))
+
+-- ---- the pairs
+
+-- the pairs of a variable are as wide as before
+wide_stays : (bounds : Bounds) (factor other_factor floor : ℕ) (given other_given : List HeardChange)
+    (old new : List SignalPair) (which : Which) (variable width : ℕ)
+    → ArePairsAt bounds factor other_factor floor given other_given old new → AreAsWide which variable width old
+    → AreAsWide which variable width new
+wide_stays bounds factor other_factor floor given other_given old new which variable width at wide i default below
+    same =
+    let count = at.count in
+    let inside : i < length old = omega (arith, count, below) in
+    let others = (at.each i default inside).others in
+    ap (λ (p : SignalPair). p.width) others
+    ∙ wide i default inside (sym (kept_variable which (get_or old i default) (get_or new i default) others) ∙ same)
+  where
+    kept_variable : (which : Which) (p q : SignalPair) → q ≡ record p { waves = q.waves }
+        → variable_in which q ≡ variable_in which p
+    kept_variable First p q others = ap (λ (p : SignalPair). p.first_variable) others
+    kept_variable Second p q others = ap (λ (p : SignalPair). p.second_variable) others
+
+-- the pairs get the change of a variable of the side that `which` names
+after_given : (bounds : Bounds) (factor other_factor floor tick count others : ℕ)
+    (given other_given : List HeardChange) (which : Which) (kept : List VariableDeclaration) (h : HeardChange)
+    (planned : List SignalPair) (old new : Pairs) (fits : IsFitting kept h) → AreGiven which tick h old new
+    → old.bounds ≡ bounds → AreListed count others old → fits.variable < chosen which count others
+    → AreAsWide which fits.variable fits.declaration.size planned
+    → ArePairsAt bounds factor other_factor floor given other_given planned old.all.items
+    → ArePairsAfter bounds which fits.variable tick (extension fits.declaration.size (letters_of_digits h.text))
+    old.all.items new.all.items
+after_given bounds factor other_factor floor tick count others given other_given which kept h planned old new fits gives
+    same listed below wide at =
+    let value = extension fits.declaration.size (letters_of_digits h.text) in
+    subst (λ b. ArePairsAfter b which fits.variable tick value old.all.items new.all.items) same
+    (gives.changed fits.variable count others fits.declaration.size value fits.target listed below
+    (wide_stays bounds factor other_factor floor given other_given planned old.all.items which fits.variable
+    fits.declaration.size at wide) fits.within.0 fits.within.1 fits.reads)
+
+module _ (coming other left other_left : Option (List ℕ)) (s t : ParseState) (start old : Walk) (most tick k : ℕ)
+    (pairs : Pairs) (h : HeardChange) (rest : List HeardChange)
+    (at : IsWalkAt most coming other left other_left s t start old) where
+  abbrev kept : List VariableDeclaration
+  kept = kept_variables s.declared
+
+  abbrev other_kept : List VariableDeclaration
+  other_kept = kept_variables t.declared
+
+  pub first_taken : IsNextChange most First tick old → at_hand old.first ≡ h ∷ rest
+      → at_hand (record old.first { taken = k }) ≡ rest → AreGiven First tick h old.pairs pairs
+      → IsWalkAt most coming other left other_left s t start
+      (record { first = record old.first { taken = k }; second = old.second; pairs = pairs })
+  first_taken next was now gives =
+      let factor = old.first.factor in
+      let is : tick ≡ h.tick * factor = sym (tick_at factor tick h rest (at_hand old.first) was next.of) in
+      let by = next.by at.first.on.later at.second.on.later at.first.on.at.at at.second.on.at.at in
+      let fits = λ (plan : IsPlan s t start). fitting s at.first.on.later at.first.on.more at.given rest
+      (at_hand old.first) h plan.declared at.first.on.heard_more at.first.on.at.heard was in
+      let given = subst (λ n. AreGiven First n h old.pairs pairs) is gives in
+      record {
+        given = at.given ++ h ∷ [];
+        other_given = at.other_given;
+        floor = h.tick * factor;
+        by = omega (arith, is, by);
+        first = side_taken coming left s at.given at.floor start.first old.first at.first k h rest was now;
+        second = side_waits other other_left t at.other_given at.floor start.second old.second at.second
+            (h.tick * factor) (omega (arith, is, by))
+            (subst (λ n. IfSome (first_tick old.second.factor (at_hand old.second)) (λ m. n ≤ m)) is
+            (first_is_early _ _ tick next.is next.of));
+        bounds = given.bounds ∙ at.bounds;
+        listed = λ plan.
+            let f = fits plan in
+            given.listed f.variable _ _ f.target (at.listed plan)
+            (slice_get_within kept f.variable f.declaration f.there);
+        pairs = λ plan.
+            let f = fits plan in
+            let wide = first_wide start.pairs.bounds kept other_kept start.pairs.all.items plan.planned f.variable
+            f.declaration f.sizes f.there in
+            all_first_given start.pairs.bounds factor old.second.factor at.floor at.given at.other_given h f.variable
+            f.declaration.size f.target start.pairs.all.items old.pairs.all.items pairs.all.items
+            (next_from coming left s at.given at.floor start.first old.first at.first h rest was) wide (at.pairs plan)
+            (after_given start.pairs.bounds factor old.second.factor at.floor (h.tick * factor) (length kept)
+            (length other_kept) at.given at.other_given First kept h start.pairs.all.items old.pairs pairs f given
+            at.bounds (at.listed plan) (slice_get_within kept f.variable f.declaration f.there) wide (at.pairs plan));
+      }
+
+  pub second_taken : IsNextChange most Second tick old → at_hand old.second ≡ h ∷ rest
+      → at_hand (record old.second { taken = k }) ≡ rest → AreGiven Second tick h old.pairs pairs
+      → IsWalkAt most coming other left other_left s t start
+      (record { first = old.first; second = record old.second { taken = k }; pairs = pairs })
+  second_taken next was now gives =
+      let factor = old.second.factor in
+      let is : tick ≡ h.tick * factor = sym (tick_at factor tick h rest (at_hand old.second) was next.of) in
+      let by = next.by at.first.on.later at.second.on.later at.first.on.at.at at.second.on.at.at in
+      let fits = λ (plan : IsPlan s t start). fitting t at.second.on.later at.second.on.more at.other_given rest
+      (at_hand old.second) h plan.other_declared at.second.on.heard_more at.second.on.at.heard was in
+      let given = subst (λ n. AreGiven Second n h old.pairs pairs) is gives in
+      record {
+        given = at.given;
+        other_given = at.other_given ++ h ∷ [];
+        floor = h.tick * factor;
+        by = omega (arith, is, by);
+        first = side_waits coming left s at.given at.floor start.first old.first at.first (h.tick * factor)
+            (omega (arith, is, by))
+            (subst (λ n. IfSome (first_tick old.first.factor (at_hand old.first)) (λ m. n ≤ m)) is
+            (second_is_early _ _ tick next.is next.of));
+        second = side_taken other other_left t at.other_given at.floor start.second old.second at.second k h rest was
+            now;
+        bounds = given.bounds ∙ at.bounds;
+        listed = λ plan.
+            let f = fits plan in
+            given.listed f.variable _ _ f.target (at.listed plan)
+            (slice_get_within other_kept f.variable f.declaration f.there);
+        pairs = λ plan.
+            let f = fits plan in
+            let wide = second_wide start.pairs.bounds kept other_kept start.pairs.all.items plan.planned f.variable
+            f.declaration f.sizes f.there in
+            all_second_given start.pairs.bounds old.first.factor factor at.floor at.given at.other_given h f.variable
+            f.declaration.size f.target start.pairs.all.items old.pairs.all.items pairs.all.items
+            (next_from other other_left t at.other_given at.floor start.second old.second at.second h rest was) wide
+            (at.pairs plan)
+            (after_given start.pairs.bounds old.first.factor factor at.floor (h.tick * factor) (length kept)
+            (length other_kept) at.given at.other_given Second other_kept h start.pairs.all.items old.pairs pairs f
+            given at.bounds (at.listed plan) (slice_get_within other_kept f.variable f.declaration f.there) wide
+            (at.pairs plan));
+      }
+
+-- a file with a next tick has a change at hand
+pub some_first : (factor tick : ℕ) (hs : List HeardChange) → first_tick factor hs ≡ Some tick
+    → (h : HeardChange) × (rest : List HeardChange) × (hs ≡ h ∷ rest)
+some_first factor tick [] of = absurd (cc of)
+some_first factor tick (h ∷ hs) of = (h, hs, refl)

@@ -1,0 +1,3 @@
+-- Lemmas of `capture_facts`.
+pub mod NameCounts
+pub mod ShownSignals

@@ -1,0 +1,2 @@
+-- Lemmas of `command_line`.
+pub mod AskedOptions

@@ -1,0 +1,2 @@
+-- Lemmas of `json_text`.
+pub mod Pieces

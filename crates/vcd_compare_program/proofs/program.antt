@@ -1,0 +1,2 @@
+-- Lemmas of `program`.
+pub mod Outcomes

@@ -1,0 +1,2 @@
+-- Lemmas of `report_line`.
+pub mod Sameness

@@ -1,0 +1,2 @@
+-- Lemmas of `reporting`.
+pub mod Ends

@@ -1,0 +1,2 @@
+-- Lemmas of several rooms.
+pub mod Enumerated

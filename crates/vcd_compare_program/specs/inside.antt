@@ -1,0 +1,4 @@
+-- Definitions for the proofs.
+pub mod Facts
+pub mod Reports
+pub mod Words
