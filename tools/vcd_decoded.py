@@ -8,10 +8,10 @@ import vcd_runs
 from vcd_files import Trouble, shown
 from vcd_messages import told_refusals
 
-OPERANDS = "CAPTURE LINE.."
+OPERANDS = "CAPTURE LINE..", "the capture, or - for standard input; lines of a script, as 'i2c bench.scl bench.sda'"
 CHANGING = {*vcd_runs.EDITS, b"undo", b"redo"}
 # Remarks on variables that differ, and on the capture. Others on the output speak of a file that is not written here.
-TOLD = re.compile("^(?:output: variables of one code|%s) .*" % vcd_runs.OF_CAPTURE, re.M)
+TOLD = re.compile("^(?:output: variables of one code|capture: (?!the file)).*", re.M)
 # Words that are hardly meant as the ticks of a bit.
 RATES = "1200 2400 4800 9600 19200 31250 38400 57600 115200 230400 460800 921600".split()
 
@@ -36,13 +36,8 @@ class Decoded(collections.namedtuple("Decoded", "number line decoder said remark
 
 def options_of(parser, words):
     """The options of a parser, with a capture and the lines of a script, as bytes."""
-    told = "the capture, which stays as it is, or - for standard input; lines of a script, as 'i2c bench.scl bench.sda'"
-    parser.add_argument("words", metavar="CAPTURE LINE", nargs="*", help=told)
-    vcd_files.add_script(parser)
-    # Python parses words behind `--` only if no options may stand between the others.
-    place = words.index("--") if "--" in words else len(words)
-    options = parser.parse_intermixed_args(words[:place])
-    options.capture, *options.line = [*options.words, *words[place + 1 :]] or parser.error("there is no CAPTURE")
+    options = vcd_files.parsed(parser, words)
+    options.capture, *options.line = options.words or parser.error("there is no CAPTURE")
     if options.capture == options.script == "-":
         parser.error("standard input is the capture or the script")
     options.lines = vcd_files.lines_of(options)

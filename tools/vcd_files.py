@@ -49,12 +49,15 @@ LETTERS, SPARE = bytes.maketrans(b"LlHhXUuWw-Z", b"0011xxxxxxz"), re.compile(rb"
 SCALARS = {letter: b"%c" % LETTERS[letter] for letter in b"01lLhHxXuUwWzZ-"}
 VECTORS, REALS = frozenset(b"bB"), frozenset(b"rRsS")
 STAMP, DOLLAR = b"#$"
-# A command among the declarations, with its words.
-COMMAND = re.compile(rb"\s*(\$\S+)(.*?)\s\$end(?=\s)", re.S)
 # The words of a line that are times, by its command, and such a word with a unit.
 TIMES = {b"shift": [2], b"cut": [1, 2], b"deglitch": [2], b"force": [2, 3], b"value": [2], b"uart": [2]}
 UNITED = re.compile(rb"([-+]?)(?:([0-9]{1,20}(?:\.[0-9]{1,15})?)([munpf]?s)|([1-9][0-9]{0,19})baud)")
 LINES_SHOWN = 10
+# The options for a part, as the program has them.
+PART = [
+    ("--keep", "PATTERN", "keep only variables whose full names match"), ("--remove", "PATTERN", "leave these out"),
+    ("--from", "TIME", "the first tick of a part, or a time as 1.5ms"), ("--to", "TIME", "its last one"),
+]
 
 
 class Trouble(Exception):
@@ -75,16 +78,6 @@ def trouble_of(error, path=None):
     return error if isinstance(error, Trouble) else Trouble("%s: %s" % (type(error).__name__, error))
 
 
-@contextlib.contextmanager
-def about(path):
-    """What goes wrong within is told of this capture."""
-    try:
-        yield
-    except Trouble as trouble:
-        trouble.lines[0] = "%s: %s" % (path, trouble.lines[0])
-        raise
-
-
 # The text of a name, which is written as the bytes that the file has.
 shown = os.fsdecode
 
@@ -98,13 +91,12 @@ def escaped(text):
 class Output(io.TextIOWrapper):
     """A stream of text with names in it. On a terminal they can't do what escape sequences do."""
 
+    def __init__(self, number):
+        # Without a buffer (PYTHONUNBUFFERED) a write that takes only a part would be passed over.
+        super().__init__(open(number, "wb", closefd=False), sys.getfilesystemencoding(), "surrogateescape")
+
     def write(self, text):
         return super().write("\n".join(map(escaped, text.split("\n"))) if self.isatty() else text)
-
-
-def output(number):
-    # Without a buffer (PYTHONUNBUFFERED) a write that takes only a part would be passed over.
-    return Output(open(number, "wb", closefd=False), sys.getfilesystemencoding(), "surrogateescape")
 
 
 def counted(count, what):
@@ -152,7 +144,8 @@ def program(name="vcdedit"):
 
 
 def words_of(file):
-    """The words of a file, or of a pipe, from where it is read next."""
+    """The words of a file."""
+    file.seek(0)
     rest = b""
     # The longer the word that may go on, the more is read.
     while chunk := file.read(max(CHUNK, len(rest))):
@@ -164,24 +157,17 @@ def words_of(file):
 
 
 def declared_in(file):
-    """Each command of the declarations of an open file: a match, its words, and the full name if it is a variable."""
-    text, place, scopes = b"", 0, []
-    while True:
-        if command := COMMAND.match(text, place):
-            words, place = command[2].split(), command.end()
-            if command[1] == b"$scope":
-                scopes.append(b"".join(words[1:]))
-            elif command[1] == b"$upscope":
-                del scopes[-1:]
-            yield command, words, b".".join([*scopes, b"".join(words[3:])]) if command[1] == b"$var" else None
-            if command[1] == b"$enddefinitions":
-                return
-        else:
-            # With a line feed behind it the last word is whole.
-            more = os.pread(file.fileno(), max(CHUNK, len(text)), len(text)) or b"\n" * (not text[-1:].isspace())
-            if not more or text[place:].lstrip()[:1] not in (b"", b"$"):
-                return
-            text += more
+    """Each command of the declarations of an open file: its kind, its words, and the full name if it is a variable."""
+    scopes, words = [], words_of(file)
+    for kind in itertools.takewhile(lambda word: word[0] == DOLLAR, words):
+        command = list(itertools.takewhile(b"$end".__ne__, words))
+        if kind == b"$scope":
+            scopes.append(b"".join(command[1:]))
+        elif kind == b"$upscope":
+            del scopes[-1:]
+        yield kind, command, b".".join([*scopes, b"".join(command[3:])]) if kind == b"$var" else None
+        if kind == b"$enddefinitions":
+            return
 
 
 def in_ticks(line, timescale):
@@ -199,9 +185,7 @@ def in_ticks(line, timescale):
 
 def lines_in_ticks(lines, file):
     """Lines of a script for a file that is open, with their times in its ticks."""
-    if not any(map(UNITED.search, lines)):
-        return lines
-    scales = [b"".join(words) for command, words, _ in declared_in(file) if command[1] == b"$timescale"]
+    scales = [b"".join(words) for kind, words, _ in declared_in(file) if kind == b"$timescale"]
     scale = re.fullmatch(rb"(10{0,2})([munpf]?s)", b"".join(scales[-1:]))
     return [in_ticks(line, shown(b"%s %s" % scale.groups())) for line in lines] if scale else lines
 
@@ -232,12 +216,6 @@ def unit_ticks(unit, timescale):
     return fractions.Fraction(1000) ** (UNITS.index(of_tick) - UNITS.index(unit)) / int(number)
 
 
-def add_script(parser):
-    """Gives a parser the options that each tool has that carries out lines."""
-    parser.add_argument("-q", "--quiet", action="store_true", help="write no remarks to standard error")
-    parser.add_argument("--script", metavar="SCRIPT", help="a file with lines before these, or - for standard input")
-
-
 def lines_of(options):
     """The lines of a script, or of standard input, and of the command line, as bytes."""
     texts = [os.fsencode(line) for line in options.line]
@@ -252,39 +230,49 @@ def show_json(rows):
     print("[%s\n]" % ",".join("\n" + json.dumps(row) for row in rows))
 
 
+@contextlib.contextmanager
 def opened(path):
-    """A capture that is read more than once: what is no regular file is copied first."""
+    """A capture that is read more than once: what is no regular file is copied first. Trouble within is told of it."""
     try:
         file = sys.stdin.buffer if path == "-" else open(path, "rb")
         if path == "-" or not os.path.isfile(path):
             given, file = file, tempfile.TemporaryFile()
             shutil.copyfileobj(given, file)
             file.seek(0)
-        return file
     except OSError as error:
-        name = path if error.filename else "%s or its copy in %s" % (path, tempfile.gettempdir())
-        raise Trouble("%s: %s" % (name, error.strerror)) from None
+        error.filename = error.filename or path + " or its copy in TMPDIR"
+        raise
+    try:
+        yield file
+    except Trouble as trouble:
+        trouble.lines[0] = "%s: %s" % (path, trouble.lines[0])
+        raise
 
 
-def add_part(parser):
-    """Gives a parser the options for a part, as the program has them."""
-    for option, metavar, meant in (
-        ("--keep", "PATTERN", "keep only variables whose full names match"), ("--remove", "PATTERN", "leave these out"),
-        ("--from", "TIME", "the first tick of a part, or a time as 1.5ms"), ("--to", "TIME", "its last one"),
-    ):
-        how = {"dest": "part", "action": "append", "default": [], "type": (option + "=").__add__}
-        parser.add_argument(option, metavar=metavar, help=meant, **how)
-
-
-def parser_of(name, text, operands):
-    """A parser with the options that each tool has, and what stands behind these."""
+def parser_of(name, text, operands, meant):
+    """A parser with operands, which mean this, and the options that each tool has."""
     usage = "%s [OPTION..] %s" % (name, operands)
     more = "`man %s` says more of each option, and explains the statuses." % name
     parser = argparse.ArgumentParser(name, usage, text, more, allow_abbrev=False)
     # A wrong word is shown as a name is.
     parser.error = lambda message: (parser.print_usage(sys.stderr), tell(name, "error: " + message), sys.exit(2))
+    parser.add_argument("words", metavar=operands, nargs="*", help=meant)
     parser.add_argument("-V", "--version", action="version", version="%s %s" % (name, VERSION))
+    parser.add_argument("-q", "--quiet", action="store_true", help="write no remarks to standard error")
+    parser.add_argument("--script", metavar="SCRIPT", help="a file with lines before these, or - for standard input")
+    for option, metavar, meant in PART:
+        how = {"dest": "part", "action": "append", "default": [], "type": (option + "=").__add__}
+        parser.add_argument(option, metavar=metavar, help=meant, **how)
     return parser
+
+
+def parsed(parser, words):
+    """The options that some words are. Behind `--` all are operands."""
+    # Python parses these only if no options may stand between the others.
+    place = words.index("--") if "--" in words else len(words)
+    options = parser.parse_intermixed_args(words[:place])
+    options.words += words[place + 1 :]
+    return options
 
 
 def in_one_line(text):
@@ -294,15 +282,15 @@ def in_one_line(text):
 
 def tell(name, *lines):
     """Writes lines about what has this name to standard error. If that can't be written, the status tells the rest."""
-    with contextlib.suppress(OSError), output(2) as stream:
+    with contextlib.suppress(OSError), Output(2) as stream:
         stream.write(in_one_line("%s: %s" % (name, "\n    ".join(lines))) + "\n")
 
 
-def end(name, main, status_of_trouble=None):
-    """Runs a tool and ends with its status. Trouble may have one of its own, but for want of memory."""
+def end(name, main, written="standard output"):
+    """Runs a tool, which may fail in what is written, and ends with its status."""
     try:
         # A file that is opened would be in the place of a stream that is closed.
-        sys.stdout, sys.stdin = output(1), sys.stdin or open(os.devnull)
+        sys.stdout, sys.stdin = Output(1), sys.stdin or open(os.devnull)
         sys.stderr = sys.stderr or open(os.devnull, "w")
         try:
             status = main(sys.argv[1:])
@@ -312,8 +300,8 @@ def end(name, main, status_of_trouble=None):
     except (OSError, Trouble, MemoryError) as error:
         if isinstance(error, OSError):
             os.dup2(os.open(os.devnull, os.O_WRONLY), 1)
-            error.filename, status_of_trouble = error.filename or "standard output", None
+            error.filename = error.filename or written
         trouble = trouble_of(error)
         tell(name, *trouble.lines)
-        status = trouble.status if trouble.status == 5 else status_of_trouble or trouble.status
+        status = trouble.status
     sys.exit(status)

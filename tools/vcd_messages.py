@@ -83,8 +83,7 @@ def name_of(word, names):
 
 def told_refusals(refused, lines, listing, file):
     """Lines about the refused lines of a script, by number and refusal, for an open capture with this listing."""
-    is_asked = any(name == "NoSuchName" for _, name in refused)
-    declared = {name: words for _, words, name in vcd_files.declared_in(file) if name} if is_asked else {}
+    declared = {name: words for _, words, name in vcd_files.declared_in(file) if name}
     return shortened(refused, lambda one: told_refusal(*one, lines[one[0] - 1], listing, declared))
 
 
@@ -98,8 +97,7 @@ def told_refusal(number, name, line, listing, declared):
     if name in NUMBERS:
         words = [word for word in map(shown, line.split()) if re.fullmatch(NUMBERS[name], word)]
         told += [told_number(word, listing.timescale) for word in words]
-    names = [signal.name for signal in listing.signals]
-    return told + (name == "NoSuchName" and told_names(signals_in(line), names, declared) or meaning)
+    return told + (name == "NoSuchName" and told_names(signals_in(line), listing.names, declared) or meaning)
 
 
 def told_number(word, timescale):

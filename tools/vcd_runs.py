@@ -2,6 +2,7 @@
 
 import bisect
 import collections
+import contextlib
 import itertools
 import os
 import re
@@ -20,19 +21,16 @@ EDITS = b"rename remove invert shift cut deglitch force derive".split()
 # Lines without words and comments have no reply, others one, and those of MANY any number, so a listing comes behind
 # them, which begins with HEAD. Among the replies of `spi` are the changes of CS.
 DECODERS, MANY, HEAD = {b"uart", b"spi", b"i2c"}, {b"uart", b"spi", b"i2c", b"changes"}, b"timescale "
-# Remarks of vcdedit-amend on a line, by its number, and on its output and the capture, on standard error.
-REMARK, OF_CAPTURE = re.compile(r"^line (\d+): (.*)\n", re.M), "capture: the last line"
-FILE_REMARK = re.compile("^(?:output:|%s) .*" % OF_CAPTURE, re.M)
-# Lines there that are no error: remarks, what replies show too, and what is said of memory and by first-look.
-NO_ERROR = re.compile(
-    r"^(?:line \d+:|output:|%s|vcdedit-amend: (?:memory may run out|LineRefused):|first-look(?:-amend)?:) .*\n"
-    % OF_CAPTURE, re.M)
+# Remarks of vcdedit-amend on standard error: on a line, by its number, and on its output and the capture.
+REMARK = re.compile(r"^line (\d+): (.*)\n", re.M)
+FILE_REMARK = re.compile("^((?:output|capture): (?!the file).*)\n", re.M)
+# Other lines there that are no error: what replies show too, and what is said of memory and by first-look.
+OTHERS = re.compile("^(?:vcdedit-amend: (?:memory may run out|LineRefused)|first-look(?:-amend)?): .*\n", re.M)
 # What a run begins with so that it ends with the tool, even if that is killed.
 GUARD = ["setpriv", "--pdeathsig", "TERM"] if shutil.which("setpriv") else []
 
-# What `list` says: the timescale or `none`, the last tick, how many variables are skipped, and the signals.
-Listing = collections.namedtuple("Listing", "timescale end skipped signals")
-Signal = collections.namedtuple("Signal", "width kind name")
+# What `list` says: the timescale or `none`, the last tick, and the names of the signals.
+Listing = collections.namedtuple("Listing", "timescale end names")
 
 
 def on_interruption(act):
@@ -51,9 +49,8 @@ def listed(lines):
 def listing_of(lines):
     """What the lines of a listing say."""
     head = dict(line.rstrip(b"\n").split(b" ", 1) for line in lines[:4])
-    rows = [line.rstrip(b"\n").split(b" ", 3) for line in lines[4:]]
-    signals = [Signal(int(width), kind, name) for _, width, kind, name in rows]
-    return Listing(shown(head[b"timescale"]), int(head[b"end"]), int(head[b"skipped"]), signals)
+    names = [line.rstrip(b"\n").split(b" ", 3)[3] for line in lines[4:]]
+    return Listing(shown(head[b"timescale"]), int(head[b"end"]), names)
 
 
 def asked(line):
@@ -63,29 +60,24 @@ def asked(line):
     return line + b"\n" + (changes + b"list\n" if command in MANY else b"")
 
 
-class Run:
+class Run(contextlib.AbstractContextManager):
     """A run of vcdedit-amend on a capture that is open for bytes. It lists, and then answers lines of a script."""
 
-    def __init__(self, source, lines=(), words=(), path="/dev/stdin", **how):
-        """`words` are more options. The program opens the capture by a path. If `lines` are None, it has no script."""
+    def __init__(self, source, lines, words=(), path="/dev/stdin", umask=-1):
+        """`words` are more options. The program opens the capture by a path."""
         self.source, self.given, self.program = source, lines, program("vcdedit-amend")
-        self.lines = vcd_files.lines_in_ticks(lines or (), source)
+        self.lines = vcd_files.lines_in_ticks(lines, source)
         # The numbers of the lines in the script below.
         texts = list(map(asked, self.lines))
         self.numbers = list(itertools.accumulate((text.count(b"\n") for text in texts), initial=2))
         with open(os.memfd_create("script"), "wb") as script:
             script.write(b"list\n" + b"".join(texts))
             script.flush()
-            by_script = ["--script", "/dev/fd/%d" % script.fileno()] if lines is not None else []
-            words = [*GUARD, self.program, "-i", path, *by_script, *words]
+            words = [*GUARD, self.program, "-i", path, "--script", "/dev/fd/%d" % script.fileno(), *words]
             # Remarks may be longer than a pipe holds, which nobody reads while replies come.
             self.errors = open(os.memfd_create("errors"), "w+b")
-            english = {**os.environ, "LC_ALL": "C"}
-            how = {"stdout": subprocess.PIPE, "stderr": self.errors, "bufsize": 1 << 20, "env": english, **how}
-            self.child = subprocess.Popen(words, stdin=source, pass_fds=[script.fileno()], **how)
-
-    def __enter__(self):
-        return self
+            self.child = subprocess.Popen(words, 1 << 20, stdin=source, stdout=subprocess.PIPE, stderr=self.errors,
+                                          env={**os.environ, "LC_ALL": "C"}, umask=umask, pass_fds=[script.fileno()])
 
     def __exit__(self, *_):
         self.child.terminate()
@@ -131,7 +123,9 @@ class Run:
         """Waits for the run's end, and raises what went wrong. A line that is refused is nothing wrong."""
         status = self.child.wait()
         # The script that starts the program ends with 128 and the signal.
-        number, errors = -status if status < 0 else status - 128, NO_ERROR.sub("", self.told())
+        number, errors = -status if status < 0 else status - 128, self.told()
+        for no_error in REMARK, FILE_REMARK, OTHERS:
+            errors = no_error.sub("", errors)
         if number in INTERRUPTIONS:
             raise Trouble("interrupted", status=128 + number)
         if number == signal.SIGXFSZ:

@@ -17,12 +17,11 @@ SLICE, LEAST = 1 << 14, 2
 
 
 class Declared:
-    """The names of a capture's variables by codes, where its changes begin, and which ticks of another one it has."""
+    """The names of a capture's variables by codes, and which ticks of another one it has."""
 
     def __init__(self, file):
         self.file, self.names, self.window = file, collections.defaultdict(list), (0, math.inf)
-        for command, words, name in declared_in(file):
-            self.begin = command.end()
+        for _, words, name in declared_in(file):
             if name is not None:
                 self.names[words[2]].append(name)
             elif words[:2] == [b"vcdedit-amend:", b"ticks"]:
@@ -34,7 +33,6 @@ def copies_of(old, window, gone, kept):
     """(code that is gone, kept code) of those that change alike in a window, by a sum of 64 bits of their changes."""
     (first, last), values, sums = window, {}, dict.fromkeys([*gone, *kept], (0, 0))
     limit, now = SLICE, 0
-    old.file.seek(old.begin)
     for number, (tick, code, value, letters) in enumerate(changes_in(words_of(old.file)) if gone and kept else ()):
         if tick > last:
             break
@@ -58,9 +56,9 @@ def own(name):
 
 def forced_in(lines, listing):
     """The names of the signals that lines force over all ticks."""
-    names, lines = [signal.name for signal in listing.signals], map(bytes.split, lines)
-    return {name_of(words[1], names) for words in lines if words[:1] == [b"force"] and len(words) == 5
-            and not words[2].strip(b"0") and words[3].isdigit() and int(words[3]) > listing.end}
+    forces = (words for words in map(bytes.split, lines) if words[:1] == [b"force"] and len(words) == 5)
+    return {name_of(name, listing.names) for _, name, first, after, _ in forces
+            if not first.strip(b"0") and after.isdigit() and int(after) > listing.end}
 
 
 def traces_of(source, file, forced, has_window):

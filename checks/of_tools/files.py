@@ -53,7 +53,7 @@ def long_ones():
     path = store("c", text="$var wire 1 ! r $end $enddefinitions $end #0 0! #3 1! #5")
     for line, count, said in (
         (b"invert r".ljust(1047), 1000, [b"ok"]), (b"changes r".ljust(1042), 1000, [b"0 0", b"3 1"]),
-        (b"uart r 2 8 none 1".ljust(27), 31000, []),
+        (b"uart r 2 8 none 1".ljust(27), 3100, []),
     ):
         with open(path, "rb") as source, vcd_runs.Run(source, [line] * count) as one:
             one.listing()

@@ -9,6 +9,7 @@ import subprocess
 import sys
 import time
 
+import vcd_files
 from common import compare_of, module_of, run, same, store, text_at
 from preloading import Devices
 
@@ -37,19 +38,14 @@ def is_near(found, said, part=0.1):
     return abs(found - said) <= said * part
 
 
-def changes_in(path):
-    """How many changes a capture has: words behind its declarations that begin with a value."""
-    with open(path) as file:
-        text = file.read().split("$enddefinitions $end", 1)[1]
-    return len(re.findall(r"(?<!\S)(?:[01xz]\S+|b\S+ \S+)", text))
-
-
 def times_the_file(module):
     """The memory of captures of several kinds, and what the documents say of the least and the most of it."""
     times = []
     for shape, signals in SHAPES.items():
         path = module.make(".", shape, 2)
-        memory, most = peak(path), BYTES_OF_CHANGE * changes_in(path) + BYTES_OF_SIGNAL * signals
+        with open(path, "rb") as file:
+            changes = sum(1 for _ in vcd_files.changes_in(vcd_files.words_of(file)))
+        memory, most = peak(path), BYTES_OF_CHANGE * changes + BYTES_OF_SIGNAL * signals
         times.append(memory / os.path.getsize(path))
         yield "%s: %d bytes of memory" % (shape, memory), memory < 1.02 * most + 8000000
     for path in RANGE_IN:

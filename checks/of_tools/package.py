@@ -15,13 +15,6 @@ NAMES = [
     (["--keep", ""], ["tb.clk", r"tb.q\[7:0\]", r"tb.ab\[3:0\]"]), (["--map", "tb.q"], [r"tb.q\[7:0\]"]),
     (["--keep", "tb.q[7:"], [r"0\]"]), (["--keep", "clk"], [""]), (["-i", "named"], [""]),
 ]
-# What is run after installing, in another folder, the status and what is shown. Each calls the program next to it.
-RUN = [
-    ("vcdedit-amend /dev/null", 4, "NotAFile"), ("vcdedit-table /dev/null list", 3, "line 1: : Truncated"),
-    ("vcdedit-compare /dev/null /dev/null", 2, "A: capture line 1: Truncated"),
-    ("vcdedit-view /dev/null -o none.vcd", 3, "line 1: : Truncated"),
-    ("vcdedit-apply /dev/null /etc/passwd", 3, "line 1: .*: UnexpectedWord"),
-]
 COMMANDS = ["vcdedit", "vcdedit-amend", "vcdedit-apply", "vcdedit-compare", "vcdedit-table", "vcdedit-view"]
 # What is installed: files of each command, and documents.
 FILES = ["bin/%s", "man/man1/%s.1", "bash-completion/completions/%s", "fish/vendor_completions.d/%s.fish"]
@@ -80,9 +73,8 @@ def run_from_anywhere(folder):
         for option in ("-V", "--version"):
             said = run([os.path.join(folder, command), option], cwd="/")
             yield "%s %s" % (command, option), said == (0, "%s %s" % (command, version), "") and version
-    for words, status, wanted in RUN:
-        done = run(["sh", "-c", '"$0"/' + words, folder], cwd="/", input="")
-        yield "%s runs from anywhere" % words, done[0] == status and re.search(wanted, done[1] + done[2])
+    status, _, errors = run([os.path.join(folder, "vcdedit-table"), "/dev/null", "list"], cwd="/")
+    yield "a tool with its program: " + errors, status == 3 and "/dev/null: line 1: : Truncated\n" in errors
 
 
 def explains_tools(folder):
@@ -100,6 +92,9 @@ def explains_tools(folder):
         yield name + ": options of the page", told == options
         yield name + ": bash completes its options", {word[2:] for word in completed(name, "--")} == options
         yield name + ": zsh knows it", name in text_at("completions/_vcdedit").split("\n")[0].split()
+    usages = text_at("launch/vcdedit-help.txt").partition("Lines of a script.")[2].partition("An edit is answered")[0]
+    listed = re.findall(r"^\\fB([a-z0-9]+)\\fR.*\t", text_at("docs/vcdedit-amend.1"), flags=re.M)
+    yield same("commands of the page", sorted(listed), sorted(re.findall("^  ([a-z0-9]+) ", usages, flags=re.M)))
     for words, wanted in NAMES:
         found = completed("vcdedit-compare", os.path.join(folder, "../../named.vcd"), *words)
         yield same("bash completes %s" % words, found, wanted)

@@ -62,7 +62,8 @@ TOLD = [
     ([SYSTEMC, "value SystemC.top.fill 3"], 1, "NoSuchName\n    SystemC.top.fill is left out: real, 1 bit\n"),
     ([GLITCHES, "shift bench.rx 3.5us"], 1, "BadNumber\n    3.5us: no whole tick: write ticks\n"),
     ([GLITCHES, "force bench.rx 3 5 0x2F"], 1, "BadValueText\n    0x2F: write 101111\n"),
-    ([I2C, "i2c bench.scl bench.sd"], 1, "bench.sd: NoSuchName\n    bench.sd: near names are bench.sda"),
+    ([GLITCHES, "uart bench.rx 8.68 8 none 1"], 1, "BadNumber\n    this is not a decimal number, or it is too large\n"
+     "    write digits alone, without unit or 0x; for BIT also a ratio, as 217/25\n"),
     ([I2C, *I2C_LINE.split()], 1, "\n    quote each line: vcdedit-table CAPTURE"),
     ([I2C, I2C_LINE, "--csv", "--json"], 2, "not allowed with"), (["--script", "-", "-"], 2, "standard input is the"),
     ([I2C, I2C_LINE, "frob"], 1, "line 2: frob"), ([I2C, "frob", "--script", "script"], 1, "line 4: frob"),
@@ -72,8 +73,8 @@ TOLD = [
 
 
 def bus(text):
-    """A capture of a bus."""
-    changes = ["1! 1\""]
+    """A capture of a bus, which is x until it is reset. Nothing is to be remarked of that."""
+    changes = ["x! x\"", "1! 1\""]
     for sign in text.replace(" ", ""):
         changes += {"S": ['1"', "1!", '0"', "0!"], "P": ['0"', "1!", '1"']}.get(sign, [sign + '"', "1!", "0!"])
     stamps = "".join("#%d %s\n" % (10 * place, change) for place, change in enumerate(changes))
@@ -101,6 +102,8 @@ def check():
     texts = [{name: " ".join(value) if isinstance(value, list) else str(value) for name, value in row.items() if value}
              for row in ({"line": line["line"], "decoder": line["decoder"], **row} for row in line["rows"])]
     yield same("csv and json", (status, errors, csv_rows), (0, "", texts))
+    head = "line,decoder,first,last,first_us,last_us,selection,what,data,mosi,miso,address,direction,acknowledges,end"
+    yield same("the head of csv", shown.partition("\n")[0], head)
     store("script", text="\n".join(["# asks", SPI_LINES[0], "list\n"]))
     yield "the names of none", table("-", "--script", "script", given="$enddefinitions $end")[0] == 1
     store("spi", text=SPI)

@@ -190,7 +190,7 @@ def settings():
 def programs():
     """A full standard output, and a capture that changes while it is read."""
     found = view(I2C, "-o", "v.vcd", I2C_LINE, before=["/bin/sh", "-c", 'exec "$@" > /dev/full', "sh"])
-    told = "vcdedit-view: standard output or %s: No space left on device\n" % os.path.abspath("tmp")
+    told = "vcdedit-view: standard output or TMPDIR: No space left on device\n"
     yield same("a full standard output", found, (4, "", told))
     store("c.vcd", text=BYTE)
     writes = '#!/bin/sh\n%s "$@"; status=$?\necho "#59" >> c.vcd\nexit $status\n' % os.environ["VCDEDIT_AMEND"]

@@ -9,11 +9,11 @@ use crate::files::{ROOM, tell_source};
 use crate::printing::{DONE, Failure, allow, refuse};
 use std::alloc::Global;
 use std::rt::Runtime;
-use vcd_amend::{AmendedCode, Amendment, DeclaredVariable, amend_marked, declared_variables};
-use vcd_copy::{AmendableItem, Amender, CopyError, InPlace, copy};
-use vcd_core::{
-    Bit, DeviceFault, FromRead, NoMemory, ScopeName, Sink, ToWrite, Value, Wave, copy_word,
+use vcd_amend::{
+    AmendedCode, Amendment, DeclaredVariable, FileEdits, amend_marked, declared_variables,
 };
+use vcd_copy::{AmendableItem, Amender, CopyError, EndedItem, InPlace, copy};
+use vcd_core::{Bit, DeviceFault, FromRead, NoMemory, Sink, ToWrite, Value, Wave, copy_word};
 use vcd_text::{Output, VARIABLE_LIMIT, write_bytes};
 
 /// Lets all items stand, each `$var` with a copy of its words. Memory may be refused after the
@@ -47,17 +47,9 @@ impl<W: Sink> Amender<W> for VariableCopies {
         }
     }
 
-    fn take(
-        &mut self,
-        output: &mut Output<W>,
-        _item: AmendableItem,
-        _code: &[u8],
-        _scopes: &[ScopeName],
-        space: &[u8],
-        body: &[u8],
-    ) -> Result<(), NoMemory> {
-        write_bytes(output, space);
-        let words = copy_word(self.alloc, body)?;
+    fn take(&mut self, output: &mut Output<W>, ended: &EndedItem) -> Result<(), NoMemory> {
+        write_bytes(output, ended.space);
+        let words = copy_word(self.alloc, ended.body)?;
         write_bytes(output, words.as_slice());
         Ok(())
     }
@@ -160,15 +152,12 @@ pub fn call_amend<R: Runtime + AllocGlobal>(rt: &R, call: &Call) -> Result<(), F
     let mut sink = Dropping { is_flushed: false };
     if call.makes {
         refuse(rt)?;
-        match amend_marked(
-            rt.alloc(),
-            &mut source,
-            VARIABLE_LIMIT,
-            &[],
-            &amendment,
-            None,
-            &mut sink,
-        ) {
+        let edits = FileEdits {
+            cuts: &[],
+            amendment: &amendment,
+            mark: None,
+        };
+        match amend_marked(rt.alloc(), &mut source, VARIABLE_LIMIT, edits, &mut sink) {
             Ok(()) => allow(rt, DONE)?,
             Err(CopyError::Read(error)) => allow(rt, error.name())?,
             Err(CopyError::Write(error)) => allow(rt, error.name())?,

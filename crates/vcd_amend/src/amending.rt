@@ -29,10 +29,17 @@ use std::alloc::Global;
 use vcd_copy::{CopyError, Mark, Marked, copy};
 use vcd_core::{Sink, Source};
 
-/// Reads a capture file, and writes it as it is after cuts and then an amendment. Each cut is made
-/// on what the earlier ones leave. A mark, if there is one, comes before `$enddefinitions`. The
-/// writer is flushed once, after the last byte. A file has at most `LONG_FILE_LIMIT` bytes and
-/// `limit` kept variables.
+/// What is done to a file: cuts, each on what the earlier ones leave, and then an amendment.
+#[derive(Clone, Copy)]
+pub struct FileEdits<'a> {
+    pub cuts: &'a [CutTicks],
+    pub amendment: &'a Amendment,
+    /// A mark, which comes before `$enddefinitions`.
+    pub mark: Option<Mark<'a>>,
+}
+
+/// Reads a capture file, and writes it as it is after these edits. The writer is flushed once,
+/// after the last byte. A file has at most `LONG_FILE_LIMIT` bytes and `limit` kept variables.
 ///
 /// The file is read as `copy` reads it: the grammar, the first fault and its line are the same. At
 /// a fault of the file, what the writer took is of no use. At `WriteFault` the writer has failed,
@@ -47,19 +54,18 @@ pub fn amend_marked<R: Source, W: Sink>(
     alloc: Global,
     reader: &mut R,
     limit: u32,
-    cuts: &[CutTicks],
-    amendment: &Amendment,
-    mark: Option<Mark<'_>>,
+    edits: FileEdits,
     writer: &mut W,
 ) -> Result<(), CopyError>
     requires reader_ready { R.has_failed reader.old ≡ false }
     requires writer_ready { W.has_failed writer.old ≡ false }
-    requires apart { AreApart (amendment_contents amendment.now).codes }
-    requires ordered { All (λ c. c.from ≤ c.to) cuts.now }
+    requires apart { AreApart (amendment_contents edits.amendment.now).codes }
+    requires ordered { All (λ c. c.from ≤ c.to) edits.cuts.now }
     ensures amended { OnOk result (IfSome (R.coming reader.old) (λ file.
         (length file ≤ LONG_FILE_LIMIT)
-        × (text : List ℕ) × IsAmendedAfterCuts limit (comment_of_mark mark.entry)
-        (is_cut_by cuts.now) (amendment_contents amendment.now) file text
+        × (text : List ℕ) × IsAmendedAfterCuts limit
+        (comment_of_mark edits.entry.mark) (is_cut_by edits.entry.cuts.now)
+        (amendment_contents edits.entry.amendment.now) file text
         × Appends (W.taken writer.old) (W.taken writer.new) text)) }
     ensures not_failed { OnOk result (W.has_failed writer.new ≡ false) }
     ensures flushed { OnOk result (W.is_flushed writer.new ≡ true) }
@@ -70,14 +76,16 @@ pub fn amend_marked<R: Source, W: Sink>(
         (R.coming reader.new) (R.has_failed reader.new) (W.taken writer.old) (W.taken writer.new)
         (W.has_failed writer.new)) }
     ensures begun { IfErr result (TookFirst limit
-        (IsAmendedAfterCuts limit (comment_of_mark mark.entry) (is_cut_by cuts.now)
-        (amendment_contents amendment.now)) (R.coming reader.old) (W.taken writer.old)
-        (W.taken writer.new) (W.has_failed writer.new)) }
+        (IsAmendedAfterCuts limit (comment_of_mark edits.entry.mark)
+        (is_cut_by edits.entry.cuts.now) (amendment_contents edits.entry.amendment.now))
+        (R.coming reader.old) (W.taken writer.old) (W.taken writer.new)
+        (W.has_failed writer.new)) }
 {
-    if cuts.is_empty() {
-        let amender = FileAmender::new(alloc, amendment)?;
+    let mark = edits.mark;
+    if edits.cuts.is_empty() {
+        let amender = FileAmender::new(alloc, edits.amendment)?;
         return copy(alloc, reader, limit, &mut Marked { amender, mark }, writer);
     }
-    let amender = CutAmender::new(alloc, cuts, amendment)?;
+    let amender = CutAmender::new(alloc, edits.cuts, edits.amendment)?;
     copy(alloc, reader, limit, &mut Marked { amender, mark }, writer)
 }

@@ -16,10 +16,10 @@ mod cut_ticks;
 mod declarations;
 mod laws;
 
-pub use amending::amend_marked;
 pub use amending::code_uses::{CodeUse, first_uses};
 pub use amending::cut_amender::is_event;
 pub use amending::file_amender::{VariableLeft, later_fates, next_fate, use_left};
+pub use amending::{FileEdits, amend_marked};
 pub use amendment::{AddedVariable, AmendedCode, Amendment, Fate};
 pub use coding::amendment_for;
 pub use coding::code_set::{CodeSet, add_code, has_code};

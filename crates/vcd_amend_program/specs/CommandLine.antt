@@ -23,9 +23,9 @@ capture_argument = record (new_rule (codes "capture")) { value_names = 1 }
 -- with the options
 abbrev pub with_options : App → App
 with_options app = with_rule (with_rule (with_rule (with_rule (with_rule (with_rule (with_rule
-    (with_rule app input_option) (value_option (codes "script"))) output_option)
-    (flag (codes "all-or-nothing"))) (flag (codes "mark"))) depth_option) quiet_option)
-    capture_argument
+    (with_rule (with_rule app input_option) (value_option (codes "script"))) output_option)
+    (flag (codes "all-or-nothing"))) (flag (codes "mark"))) (value_option (codes "verify")))
+    depth_option) quiet_option) capture_argument
 
 -- with the options that say which part is meant
 abbrev pub with_part : App → App
@@ -45,6 +45,7 @@ pub record AskedOptions : Type 0 where
   pub capture : Option Text
   pub script : Option Text
   pub output : Option Text
+  pub verify : Option Text
   pub depth : ℕ
   pub is_marked : Bool
   pub is_quiet : Bool
@@ -61,6 +62,7 @@ options_in o = record {
   capture = option_copied o.capture;
   script = option_copied o.script;
   output = option_copied o.output;
+  verify = option_copied o.verify;
   depth = o.depth;
   is_marked = o.is_marked;
   is_quiet = o.is_quiet;
@@ -75,6 +77,11 @@ options_in o = record {
 abbrev pub ask_for_part : AskedOptions → Bool
 ask_for_part o = is_some o.keep || (is_some o.remove || (is_some o.from || is_some o.to))
 
+-- whether something is asked for that the mark of a file says, or an output
+abbrev pub ask_for_more_than_verify : AskedOptions → Bool
+ask_for_more_than_verify o = is_some o.script || (is_some o.output || (o.is_marked
+    || (o.is_all_or_nothing || ask_for_part o)))
+
 -- what accepted words after the program's name ask for
 abbrev pub asked_options : List Text → AskedOptions
 asked_options words =
@@ -84,6 +91,7 @@ asked_options words =
       capture = first_of (codes "capture") rows;
       script = first_of (codes "script") rows;
       output = first_of (codes "output-file") rows;
+      verify = first_of (codes "verify") rows;
       depth = depth_asked (one_of (codes "depth") rows);
       is_marked = is_given (first_of (codes "mark") rows);
       is_quiet = is_given (first_of (codes "quiet") rows);

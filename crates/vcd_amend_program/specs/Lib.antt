@@ -7,4 +7,6 @@ pub mod PartOutcome
 pub mod PartRemarks
 pub mod OptionsEnd
 pub mod Marks
+pub mod FoundMarks
+pub mod VerifyOutcome
 pub mod inside

@@ -9,6 +9,8 @@ use Rattle.vcd_shell.specs.Report.{report_of}
 use Rattle.vcd_script_shell.specs.RunReport.{run_error_report, run_error_status}
 use Rattle.vcd_devices.specs.declared.safe_file.OutputFault.{OutputFault}
 use Rattle.vcd_devices.specs.declared.safe_file.OutputFault.TheVariants as output_faults
+use Rattle.vcd_devices.specs.declared.verify_fault.VerifyFault.{VerifyFault}
+use Rattle.vcd_devices.specs.declared.verify_fault.VerifyFault.TheVariants as verify_faults
 use Rattle.vcd_amend_program.specs.declared.amend_error.PartFault.{PartFault}
 use Rattle.vcd_amend_program.specs.declared.amend_error.PartFault.TheVariants as faults
 use Rattle.vcd_amend_program.specs.declared.amend_error.AmendError.{AmendError}
@@ -34,15 +36,23 @@ abbrev pub output_status : OutputFault → ℕ
 output_status output_faults.NoMemory = 5
 output_status _ = 4
 
+-- the exit status if a marked file is not what its mark says
+abbrev pub verify_status : VerifyFault → ℕ
+verify_status verify_faults.NotRead = 4
+verify_status verify_faults.NoMemory = 5
+verify_status _ = 1
+
 -- the exit status of a file that was not amended
 abbrev pub error_status : AmendError → ℕ
 error_status errors.TwoCaptures = 2
 error_status errors.NoCapture = 2
 error_status errors.NotAFile = 4
 error_status errors.NothingToMark = 2
+error_status errors.MoreThanVerify = 2
 error_status (errors.Part fault) = part_status fault
 error_status (errors.Run e) = run_status e
 error_status (errors.Output fault) = output_status fault
+error_status (errors.Verify fault) = verify_status fault
 
 -- the line of a text, after the program's name
 abbrev pub own_report : List ℕ → List ℕ
@@ -63,6 +73,31 @@ output_text output_faults.NoMemory = codes "out of memory"
 -- the line for a file of the output
 abbrev pub output_report : OutputFault → List ℕ
 output_report fault = own_report (output_text fault)
+
+-- what the line says of a marked file that is not what its mark says
+abbrev pub verify_text : VerifyFault → List ℕ
+verify_text verify_faults.NoMark = codes "NoMark: the file of --verify has no mark"
+verify_text verify_faults.OtherCapture =
+    codes "OtherCapture: the mark names another size or SHA-256"
+verify_text (verify_faults.Differs same) =
+    codes "Differs: the file of --verify differs after byte "
+verify_text (verify_faults.EndsEarly same) =
+    codes "EndsEarly: the file of --verify ends after byte "
+verify_text (verify_faults.GoesOn same) =
+    codes "GoesOn: the file of --verify goes on after byte "
+verify_text verify_faults.NotRead =
+    codes "NotVerified: the file of --verify can't be read twice"
+verify_text verify_faults.NoMemory = codes "out of memory"
+
+-- the line for such a file, with how many bytes are the same
+abbrev pub verify_report : VerifyFault → List ℕ
+verify_report (verify_faults.Differs same) =
+    own_report (verify_text (verify_faults.Differs same) ++ decimal same)
+verify_report (verify_faults.EndsEarly same) =
+    own_report (verify_text (verify_faults.EndsEarly same) ++ decimal same)
+verify_report (verify_faults.GoesOn same) =
+    own_report (verify_text (verify_faults.GoesOn same) ++ decimal same)
+verify_report fault = own_report (verify_text fault)
 
 -- the line on standard error of a run that was not completed
 abbrev pub run_text : AmendRunError → List ℕ
@@ -105,6 +140,9 @@ error_text errors.NotAFile = own_report
     (codes "NotAFile: the capture is no regular file, and so it can't be read several times")
 error_text errors.NothingToMark =
     own_report (codes "NothingToMark: --mark marks the output; name its file after -o")
+error_text errors.MoreThanVerify = own_report
+    (codes "MoreThanVerify: with --verify comes the capture alone; the mark says the rest")
 error_text (errors.Part fault) = part_text fault
 error_text (errors.Run e) = run_text e
 error_text (errors.Output fault) = output_report fault
+error_text (errors.Verify fault) = verify_report fault

@@ -7,7 +7,7 @@ ghost use Rattle.vcd_amend_program.specs.declared.amend_error.AmendError.TheVari
 
 use vcd_amend_run::AmendRunError;
 use vcd_copy::CopyError;
-use vcd_devices::OutputFault;
+use vcd_devices::{OutputFault, VerifyFault};
 use vcd_part::{PartError, Refusal};
 use vcd_script::RunError;
 use vcd_text::{Fault, ReadError};
@@ -23,12 +23,16 @@ pub enum AmendError {
     NotAFile,
     /// A mark is asked for, and no output.
     NothingToMark,
+    /// A marked file is to be compared, and more is asked for.
+    MoreThanVerify,
     /// No part was taken.
     Part(PartFault),
     /// The run was not completed.
     Run(AmendRunError),
     /// The file of the output can't be written.
     Output(OutputFault),
+    /// A marked file is not what its mark says.
+    Verify(VerifyFault),
 }
 
 /// Why no part was taken of a capture that can be read.
@@ -59,6 +63,14 @@ impl From<OutputFault> for AmendError {
 
     fn from(fault: OutputFault) -> AmendError {
         AmendError::Output(fault)
+    }
+}
+
+impl From<VerifyFault> for AmendError {
+    ghost from_gives = { λ fault e. e ≡ amend_errors.Verify fault };
+
+    fn from(fault: VerifyFault) -> AmendError {
+        AmendError::Verify(fault)
     }
 }
 
@@ -97,3 +109,9 @@ pub const NO_SCRIPT: AmendError = AmendError::Run(AmendRunError::Run(RunError::S
 pub const NO_MEMORY: AmendError = AmendError::Run(AmendRunError::Run(RunError::NoMemory {
     line: 0,
 }));
+
+/// The marked file can't be read.
+pub const NOT_VERIFIED: AmendError = AmendError::Verify(VerifyFault::NotRead);
+
+/// The marked file has no mark.
+pub const NO_MARK: AmendError = AmendError::Verify(VerifyFault::NoMark);

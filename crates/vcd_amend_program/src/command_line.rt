@@ -35,7 +35,8 @@ Not edited here:
 A mark:
   With --mark the output has a comment before `$enddefinitions`: the name, size and SHA-256 of the
   capture, the options of a part, and the lines of the script whose edits are in force. It needs -o,
-  and a capture that is a file, which is read once more.
+  and a capture that is a file, which is read once more. With --verify the newest mark of FILE is
+  carried out on the capture, and nothing is written but whether FILE is the same.
 
 A part:
   With --keep, --remove, --from or --to, a part of the capture is the output, or without -o goes to
@@ -61,7 +62,8 @@ Examples:
 
 Exit status:
   0  done, or help or the version is shown
-  1  done, but a line of the script was refused; or what is asked for does not match the capture
+  1  done, but a line of the script was refused; or what is asked for does not match the capture,
+     or a marked file is not what its mark says
   2  the command line is refused
   3  the capture has a fault, which is shown with its line, or the script is too large
   4  a file can't be opened, read or written, or standard output can't be written
@@ -82,6 +84,8 @@ pub struct Options<'m, 'a> {
     /// The path of the script. Without one the script is the one line `list`, or if a part is asked
     /// for, there is none.
     pub script: Option<&'a str>,
+    /// The path of a marked file. With one it is compared, and nothing is written.
+    pub verify: Option<&'a str>,
     /// The path of the output. Without one there is no output, or if a part is asked for without a
     /// script, it is standard output.
     pub output: Option<&'a str>,
@@ -110,6 +114,18 @@ impl Options<'_, '_> {
     {
         self.keep.is_some() || self.remove.is_some() || self.from.is_some() || self.to.is_some()
     }
+
+    /// Whether something is asked for that the mark of a file says, which is to be compared, or an
+    /// output.
+    pub fn ask_for_more_than_verify(&self) -> bool
+        ensures { result ≡ spec.ask_for_more_than_verify (spec.options_in self.now) }
+    {
+        self.script.is_some()
+            || self.output.is_some()
+            || self.is_marked
+            || self.is_all_or_nothing
+            || self.ask_for_part()
+    }
 }
 
 /// The options of accepted words.
@@ -124,6 +140,7 @@ pub fn options_of<'m, 'a>(matches: &'m ArgMatches<'a>) -> Options<'m, 'a>
         input: matches.get_str("input-file"),
         capture: matches.get_str("capture"),
         script: matches.get_str("script"),
+        verify: matches.get_str("verify"),
         output: matches.get_str("output-file"),
         depth: depth_of(matches),
         is_marked: is_given(matches, "mark"),
@@ -158,6 +175,7 @@ fn with_options<'a>(program: Command<'a>, alloc: Global) -> Result<Command<'a>, 
         .arg(output_option(alloc, OUTPUT_HELP))?
         .arg(flag(alloc, "all-or-nothing", ALL_OR_NOTHING_HELP))?
         .arg(flag(alloc, "mark", MARK_HELP))?
+        .arg(value_option(alloc, "verify", "FILE", VERIFY_HELP))?
         .arg(depth_option(alloc))?
         .arg(quiet_option(alloc))?
         .arg(capture_argument(alloc))
@@ -177,6 +195,8 @@ fn with_part<'a>(program: Command<'a>, alloc: Global) -> Result<Command<'a>, All
 const ALL_OR_NOTHING_HELP: &str = "Write no output if a line of the script is refused";
 
 const MARK_HELP: &str = "Write a comment into the output that says what it was made of, and how";
+
+const VERIFY_HELP: &str = "Compare a marked file with what its mark makes of the capture";
 
 const KEEP_HELP: &str = "Keep the variables with such a name; repeatable. Without it all are kept";
 

@@ -32,7 +32,8 @@ pub struct PartJob<'r> {
 pub fn run_of<'r>(options: &Options<'_, '_>, mark: Option<MarkHead<'r>>) -> RunOptions<'r>
     requires depth { HasDepth options.now }
     requires marked { is_some mark ≡ options.now.is_marked }
-    ensures { IsReadyRun (options_in options.now) result }
+    ensures ready { IsReadyRun (options_in options.now) result }
+    ensures mark { result.mark ≡ mark.entry }
 {
     RunOptions {
         depth: options.depth,

@@ -8,6 +8,7 @@
 mod amend_error;
 mod capture_mark;
 mod command_line;
+mod found_mark;
 mod inputs;
 mod job;
 mod near;
@@ -17,6 +18,7 @@ mod part_words;
 mod passes;
 mod program;
 mod reporting;
+mod verify;
 
 pub use amend_error::{AmendError, PartFault};
 pub use program::VcdeditAmend;

@@ -230,7 +230,7 @@ fn run_on_part<R: Runtime<File = File> + AllocGlobal, C: Source>(
 }
 
 /// Creates the file that holds the part, with a writer to it.
-fn create_part_file<'a, R: Runtime<File = File> + AllocGlobal>(
+pub fn create_part_file<'a, R: Runtime<File = File> + AllocGlobal>(
     rt: &'a R,
 ) -> Result<(PartFile<'a, R>, File), AmendError>
     ensures { IfErr result spec.IsPartFileFault }
@@ -251,7 +251,7 @@ fn part_file_error(error: io::Error) -> AmendError
 }
 
 /// Takes the part to this file.
-fn hold_part<R: Runtime + AllocGlobal, C: Source>(
+pub fn hold_part<R: Runtime + AllocGlobal, C: Source>(
     rt: &R,
     source: &mut C,
     part: &PartJob<'_>,
@@ -322,7 +322,7 @@ fn take_part<R: Runtime + AllocGlobal, C: Source, W: Sink>(
 
 /// The error of a part that is written to a file of its own: if that can't take it, it is no output
 /// that failed.
-fn on_part_file(error: AmendError) -> AmendError
+pub fn on_part_file(error: AmendError) -> AmendError
     ensures { (result ≡ error) ⊎ (result ≡ spec.no_part_file) }
 {
     match error {

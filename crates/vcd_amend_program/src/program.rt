@@ -6,7 +6,7 @@ ghost use Rattle.std.specs.Option.{option_copied};
 ghost use Rattle.vcd_core.specs.Devices.{device_end};
 ghost use Rattle.vcd_amend_run.specs.AmendRunEnds.{AreReady};
 ghost use Rattle.vcd_amend_program.specs.CommandLine.{options_in};
-ghost use Rattle.vcd_amend_program.specs.OptionsEnd.{IsOutcomeOfOptions};
+ghost use Rattle.vcd_amend_program.specs.OptionsEnd.{IsOutcomeOfJob, IsOutcomeOfOptions};
 ghost use Rattle.vcd_amend_program.specs.ProgramEnds.{IsOutcomeOnFile, IsOutcomeOn};
 ghost use Rattle.vcd_amend_program.specs.ProgramEnds as spec;
 ghost use Rattle.vcd_amend_program.specs.Sums.{HaveOneSum};
@@ -20,6 +20,7 @@ use crate::job::{Job, run_of};
 use crate::part::run_part;
 use crate::passes::{clear_progress, find_capture, open_passes, refuse_changed};
 use crate::reporting::{PROGRAM, report};
+use crate::verify::run_verify;
 use clap::{ArgMatches, Command};
 use std::alloc::{AllocError, Global};
 use std::fs::File;
@@ -99,6 +100,20 @@ fn run_options<R: Runtime<File = File> + AllocGlobal>(
     requires depth { HasDepth options.now }
     ensures { IsOutcomeOfOptions (options_in options.now) result }
 {
+    match options.verify {
+        Some(marked) => run_verify(rt, options, marked),
+        None => run_job(rt, options),
+    }
+}
+
+/// Does what options ask for that name no marked file.
+fn run_job<R: Runtime<File = File> + AllocGlobal>(
+    rt: &R,
+    options: &Options<'_, '_>,
+) -> Result<Summary, AmendError>
+    requires depth { HasDepth options.now }
+    ensures { IsOutcomeOfJob (options_in options.now) result }
+{
     if options.ask_for_part() {
         return run_part(rt, options);
     }
@@ -110,7 +125,10 @@ fn run_options<R: Runtime<File = File> + AllocGlobal>(
 }
 
 /// The path of the capture, which is named once, and is not standard input.
-fn capture_path<'a>(input: Option<&'a str>, capture: Option<&'a str>) -> Result<&'a str, AmendError>
+pub fn capture_path<'a>(
+    input: Option<&'a str>,
+    capture: Option<&'a str>,
+) -> Result<&'a str, AmendError>
     ensures path { IfOk result (λ path. spec.capture_path (option_copied input.entry)
         (option_copied capture.entry) ≡ Ok path.now) }
     ensures fault { IfErr result (λ e. spec.capture_path (option_copied input.entry)

@@ -1,6 +1,6 @@
 //! The report of a run: its exit status, and the line on standard error.
 
-ghost use Rattle.std.specs.Prelude.{◌≡◌, ◌≤◌};
+ghost use Rattle.std.specs.Prelude.{◌≡◌, ◌≤◌, ◌++◌, decimal};
 ghost use Rattle.vcd_shell.specs.Report.{IsReported};
 ghost use Rattle.vcd_amend_program.specs.Report.{error_status, error_text, run_status, run_text};
 ghost use Rattle.vcd_amend_program.specs.Report as spec;
@@ -10,7 +10,7 @@ use crate::amend_error::{AmendError, PartFault};
 use itoa::Buffer;
 use vcd_amend_run::AmendRunError;
 use vcd_core::Sink;
-use vcd_devices::OutputFault;
+use vcd_devices::{OutputFault, VerifyFault};
 use vcd_part::Refusal;
 use vcd_script_shell::{report_run_error, run_error_status};
 
@@ -37,10 +37,11 @@ fn error_status(error: &AmendError) -> u8
     match error {
         AmendError::TwoCaptures | AmendError::NoCapture => 2,
         AmendError::NotAFile => 4,
-        AmendError::NothingToMark => 2,
+        AmendError::NothingToMark | AmendError::MoreThanVerify => 2,
         AmendError::Part(fault) => part_status(*fault),
         AmendError::Run(error) => run_status(error),
         AmendError::Output(fault) => output_status(*fault),
+        AmendError::Verify(fault) => verify_status(*fault),
     }
 }
 
@@ -80,9 +81,15 @@ fn report_error<W: Sink>(error: &AmendError, writer: &mut W)
             b"NothingToMark: --mark marks the output; name its file after -o",
             writer,
         ),
+        AmendError::MoreThanVerify => vcd_shell::report(
+            PROGRAM,
+            b"MoreThanVerify: with --verify comes the capture alone; the mark says the rest",
+            writer,
+        ),
         AmendError::Part(fault) => report_part(*fault, writer),
         AmendError::Run(error) => report_run(error, writer),
         AmendError::Output(fault) => report_output(*fault, writer),
+        AmendError::Verify(fault) => report_verify(*fault, writer),
     }
 }
 
@@ -117,6 +124,59 @@ fn output_text(fault: OutputFault) -> &'static str
         OutputFault::CaptureChanged => "CaptureChanged: the capture was changed while it was read",
         OutputFault::Failed => "output: write fault",
         OutputFault::NoMemory => "out of memory",
+    }
+}
+
+/// The exit status if a marked file is not what its mark says: 4 if it can't be read, 5 if memory
+/// ran out, and else 1.
+fn verify_status(fault: VerifyFault) -> u8
+    ensures most { result ≤ 5 }
+    ensures status { result ≡ spec.verify_status fault }
+{
+    match fault {
+        VerifyFault::NotRead => 4,
+        VerifyFault::NoMemory => 5,
+        _ => 1,
+    }
+}
+
+/// Writes and flushes the line on why a marked file is not what its mark says.
+fn report_verify<W: Sink>(fault: VerifyFault, writer: &mut W)
+    ensures { IsReported (W.has_failed writer.new) (W.is_flushed writer.new)
+        (W.taken writer.old) (W.taken writer.new) (spec.verify_report fault) }
+{
+    let text = verify_text(fault).as_bytes();
+    match fault {
+        VerifyFault::Differs { same } => report_same(text, same, writer),
+        VerifyFault::EndsEarly { same } => report_same(text, same, writer),
+        VerifyFault::GoesOn { same } => report_same(text, same, writer),
+        VerifyFault::NoMark => vcd_shell::report(PROGRAM, text, writer),
+        VerifyFault::OtherCapture => vcd_shell::report(PROGRAM, text, writer),
+        VerifyFault::NotRead => vcd_shell::report(PROGRAM, text, writer),
+        VerifyFault::NoMemory => vcd_shell::report(PROGRAM, text, writer),
+    }
+}
+
+/// Writes and flushes the line of a text and of how many bytes are the same.
+fn report_same<W: Sink>(text: &[u8], same: u64, writer: &mut W)
+    ensures { IsReported (W.has_failed writer.new) (W.is_flushed writer.new)
+        (W.taken writer.old) (W.taken writer.new) (spec.own_report (text.now ++ decimal same)) }
+{
+    vcd_shell::report_with(PROGRAM, text, Buffer::new().format(same).as_bytes(), writer);
+}
+
+/// What the line says of a marked file.
+fn verify_text(fault: VerifyFault) -> &'static str
+    ensures { result.now ≡ spec.verify_text fault }
+{
+    match fault {
+        VerifyFault::NoMark => "NoMark: the file of --verify has no mark",
+        VerifyFault::OtherCapture => "OtherCapture: the mark names another size or SHA-256",
+        VerifyFault::Differs { .. } => "Differs: the file of --verify differs after byte ",
+        VerifyFault::EndsEarly { .. } => "EndsEarly: the file of --verify ends after byte ",
+        VerifyFault::GoesOn { .. } => "GoesOn: the file of --verify goes on after byte ",
+        VerifyFault::NotRead => "NotVerified: the file of --verify can't be read twice",
+        VerifyFault::NoMemory => "out of memory",
     }
 }
 

@@ -53,6 +53,13 @@ pub struct NoMemoryAt {
     pub line: u64,
 }
 
+/// What the lines of a dry run change.
+#[derive(Drop)]
+struct DryState {
+    session: Session,
+    history: EditHistory,
+}
+
 /// Runs the lines of a script on a capture without changes, and finds what the run on the whole
 /// capture needs. `skipped` is how many variables of the file were left out, and `depth` how many
 /// edits can be undone.
@@ -87,54 +94,44 @@ pub fn dry_run(
         ≡ last_capture (contents outline) skipped depth (script_lines script.now)) }
     ensures line { IfErr result (λ e. e.line ≤ length (script_lines script.now)) }
 {
-    let Ok((mut session, mut history, mut heard)) = begin(alloc, outline, depth) else {
+    let Ok((mut state, mut heard)) = begin(alloc, outline, depth) else {
         return Err(NoMemoryAt { line: 0 });
     };
-    hear_lines(
-        alloc,
-        &mut session,
-        skipped,
-        script,
-        &mut heard,
-        &mut history,
-    )?;
-    match history.cuts(alloc) {
-        Ok(cuts) => Ok(found(session, history, heard, cuts)),
+    hear_lines(alloc, &mut state, skipped, script, &mut heard)?;
+    match state.history.cuts(alloc) {
+        Ok(cuts) => Ok(found(state, heard, cuts)),
         Err(_) => Err(NoMemoryAt { line: 0 }),
     }
 }
 
 /// Before the first line: no edit is made, and no signal is heard.
-fn begin(
-    alloc: Global,
-    outline: Capture,
-    depth: u64,
-) -> Result<(Session, EditHistory, Vec<bool>), NoMemory>
+fn begin(alloc: Global, outline: Capture, depth: u64) -> Result<(DryState, Vec<bool>), NoMemory>
     requires least { 1 ≤ depth }
     requires most { depth ≤ DEPTH_LIMIT }
     requires sound { IsSound (contents outline) }
     ensures session { IfOk result (λ begun.
-        begun.0 ≡ initial_machine (contents outline) depth) }
+        begun.0.session ≡ initial_machine (contents outline) depth) }
     ensures history { IfOk result (λ begun.
-        begun.1 ≡ noted_before_lines (length (contents outline).signals)) }
+        begun.0.history ≡ noted_before_lines (length (contents outline).signals)) }
     ensures heard { IfOk result (λ begun.
-        begun.2.items ≡ replicate (length (contents outline).signals) false) }
+        begun.1.items ≡ replicate (length (contents outline).signals) false) }
 {
     let count = outline.signals.len();
     let heard = none_heard(alloc, count)?;
     let history = EditHistory::new(alloc, count)?;
     let session = Session::new(alloc, outline, depth).map_err(|_| NoMemory)?;
-    Ok((session, history, heard))
+    Ok((DryState { session, history }, heard))
 }
 
 /// What is found after the last line.
-fn found(session: Session, history: EditHistory, heard: Vec<bool>, cuts: Vec<CutTicks>) -> DryRun
+fn found(state: DryState, heard: Vec<bool>, cuts: Vec<CutTicks>) -> DryRun
     ensures heard { result.heard ≡ heard }
-    ensures origins { result.origins.items ≡ history.notes.origins }
+    ensures origins { result.origins.items ≡ state.history.notes.origins }
     ensures cuts { result.cuts ≡ cuts }
-    ensures lines { result.edit_lines.items ≡ reverse history.lines.in_force }
-    ensures last { contents result.last ≡ session.now }
+    ensures lines { result.edit_lines.items ≡ reverse state.history.lines.in_force }
+    ensures last { contents result.last ≡ state.session.now }
 {
+    let DryState { session, history } = state;
     DryRun {
         heard,
         origins: history.origins.into_origins(),
@@ -147,26 +144,25 @@ fn found(session: Session, history: EditHistory, heard: Vec<bool>, cuts: Vec<Cut
 /// Runs the lines of a script.
 fn hear_lines(
     alloc: Global,
-    session: &mut Session,
+    state: &mut DryState,
     skipped: u64,
     script: &[u8],
     heard: &mut [bool],
-    history: &mut EditHistory,
 ) -> Result<(), NoMemoryAt>
     requires { length script.now < 2 ^ 60 }
     ensures machine { OnOk result
-        (machine_after_lines session.old (script_lines script.now) ≡ session.new) }
-    ensures notes { OnOk result (notes_after_lines skipped history.old session.old
-        (script_lines script.now) ≡ history.new) }
-    ensures heard { OnOk result (marked heard.old (origins_heard_in skipped history.old session.old
-        (script_lines script.now)) ≡ heard.new) }
+        (machine_after_lines state.old.session (script_lines script.now) ≡ state.new.session) }
+    ensures notes { OnOk result (notes_after_lines skipped state.old.history state.old.session
+        (script_lines script.now) ≡ state.new.history) }
+    ensures heard { OnOk result (marked heard.old (origins_heard_in skipped state.old.history
+        state.old.session (script_lines script.now)) ≡ heard.new) }
     ensures line { IfErr result (λ e. e.line ≤ length (script_lines script.now)) }
 {
     let mut rest = script;
     let mut number = 0u64;
     while let Some((line, following)) = split_line(rest) {
         number += 1;
-        let Ok(()) = hear_line(alloc, session, skipped, number, line, heard, history) else {
+        let Ok(()) = hear_line(alloc, state, skipped, line, heard) else {
             return Err(NoMemoryAt { line: number });
         };
         rest = following;
@@ -174,24 +170,23 @@ fn hear_lines(
     Ok(())
 }
 
-/// Runs the line of this number.
+/// Runs a line.
 fn hear_line(
     alloc: Global,
-    session: &mut Session,
+    state: &mut DryState,
     skipped: u64,
-    number: u64,
     line: &[u8],
     heard: &mut [bool],
-    history: &mut EditHistory,
 ) -> Result<(), NoMemory>
-    ensures { OnOk result (HearsLine skipped line.now session.old session.new
-        history.old history.new heard.old heard.new) }
+    ensures { OnOk result (HearsLine skipped line.now state.old.session state.new.session
+        state.old.history state.new.history heard.old heard.new) }
 {
-    let asked = parse_line(line, session.capture());
-    hear(heard, history.origins(), &asked);
-    let reply = answer_line(alloc, session, skipped, number, line)?;
+    let asked = parse_line(line, state.session.capture());
+    hear(heard, state.history.origins(), &asked);
+    // no one reads the reply, so its line may have any number
+    let reply = answer_line(alloc, &mut state.session, skipped, 0, line)?;
     if reply.is_refused {
         return Ok(());
     }
-    history.follow(alloc, &asked, line)
+    state.history.follow(alloc, &asked, line)
 }

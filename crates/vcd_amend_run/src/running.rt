@@ -49,14 +49,14 @@ use crate::remarks::output_remarks;
 use crate::sharing::share_capture;
 use std::alloc::Global;
 use vcd_amend::{
-    Amendment, CutTicks, DeclaredVariable, amend_marked, amendment_for, declared_variables,
-    have_sizes_of,
+    Amendment, CutTicks, DeclaredVariable, FileEdits, amend_marked, amendment_for,
+    declared_variables, have_sizes_of,
 };
 use vcd_copy::{CopyError, Mark, MarkHead};
 use vcd_core::{Capture, NoMemory, SIGNAL_LIMIT, Sink, Source, Word, write_and_flush};
 use vcd_journal::{DEPTH_LIMIT, Session};
 use vcd_remarks::run_remarked_lines;
-use vcd_script::{RunError, Summary, read_script, run_lines};
+use vcd_script::{RunError, RunInput, Summary, read_script};
 use vcd_text::ReadError;
 
 /// One source of a capture file for each pass over it.
@@ -128,6 +128,13 @@ struct Edited {
     refused: u64,
 }
 
+/// The capture after the script, and which signals of the first its signals were.
+#[derive(Clone, Copy)]
+struct LaterCapture<'s> {
+    session: &'s Session,
+    origins: &'s [usize],
+}
+
 impl From<RunError> for AmendRunError {
     ghost from_gives = { λ error e. e ≡ errors.Run error };
 
@@ -187,6 +194,7 @@ impl From<CopyError> for AmendRunError {
 /// force without an output, those on the output. If either runs out of memory, or the writer of the
 /// remarks fails, the run goes on without the other remarks. A writer that has failed costs
 /// nothing.
+// seven parameters: only of a `&mut` of its own can a clause say what each device has taken
 pub fn amend_run<R: Source, S: Source, P: Sink, Q: Sink, W: Sink>(
     alloc: Global,
     passes: &mut Passes<R>,
@@ -220,7 +228,7 @@ pub fn amend_run<R: Source, S: Source, P: Sink, Q: Sink, W: Sink>(
             let edited = run_script(alloc, passes, script_reader, replies, remarks, depth, true)?;
             let refused = edited.refused;
             refuse_line(options.is_all_or_nothing, refused)?;
-            copy_amended(alloc, &mut passes.copy, edited, options.mark, remarks, out)?;
+            copy_amended(&mut passes.copy, edited, options.mark, remarks, out)?;
             Ok(Summary { refused })
         }
         None => {
@@ -246,6 +254,7 @@ fn refuse_line(is_all_or_nothing: bool, refused: u64) -> Result<(), AmendRunErro
 
 /// Runs everything but the copy. If the file is to be written, no signal may get the name of a
 /// skipped variable.
+// seven parameters, as of `amend_run`
 fn run_script<R: Source, S: Source, P: Sink, Q: Sink>(
     alloc: Global,
     passes: &mut Passes<R>,
@@ -451,8 +460,11 @@ fn edit<P: Sink, Q: Sink>(
 {
     let (first, edited) = share_capture(alloc, plan.first)?;
     let mut session = begin_session(alloc, edited, depth)?;
-    let script = plan.script.as_slice();
-    let refused = run_remarked_lines(alloc, &mut session, plan.skipped, script, replies, remarks)?;
+    let input = RunInput {
+        script: plan.script.as_slice(),
+        skipped: plan.skipped,
+    };
+    let refused = run_remarked_lines(alloc, &mut session, &input, replies, remarks)?;
     Ok(Edited {
         declared: plan.declared,
         first,
@@ -480,7 +492,6 @@ fn begin_session(alloc: Global, capture: Capture, depth: u64) -> Result<Session,
 /// Writes the remarks on the output. Then it copies the file after the cuts with what else the
 /// script has changed, and with a mark if one is asked for.
 fn copy_amended<R: Source, Q: Sink, W: Sink>(
-    alloc: Global,
     reader: &mut R,
     edited: Edited,
     head: Option<MarkHead<'_>>,
@@ -523,26 +534,21 @@ fn copy_amended<R: Source, Q: Sink, W: Sink>(
         session,
         ..
     } = edited;
+    let alloc = *declared.allocator();
     let cuts = cuts.as_slice();
-    let amendment = amendment_after_cuts(
-        alloc,
-        declared.as_slice(),
-        first,
-        origins.as_slice(),
-        cuts,
-        &session,
-    )?;
+    let later = LaterCapture {
+        session: &session,
+        origins: origins.as_slice(),
+    };
+    let amendment = amendment_after_cuts(alloc, declared.as_slice(), first, cuts, &later)?;
     remark_on_output(alloc, declared.as_slice(), &amendment, cuts, remarks);
     let mark = mark_of(head, edit_lines.as_slice());
-    amend_marked(
-        alloc,
-        reader,
-        SIGNAL_LIMIT as u32,
+    let edits = FileEdits {
         cuts,
-        &amendment,
+        amendment: &amendment,
         mark,
-        out,
-    )
+    };
+    amend_marked(alloc, reader, SIGNAL_LIMIT as u32, edits, out)
 }
 
 /// Writes the remarks on the output that the script would have, if edits are in force. An error
@@ -571,8 +577,11 @@ fn remark_without_output<Q: Sink>(alloc: Global, edited: Edited, remarks: &mut Q
     }
     let declared = declared.as_slice();
     let cuts = cuts.as_slice();
-    let origins = origins.as_slice();
-    if let Ok(amendment) = amendment_after_cuts(alloc, declared, first, origins, cuts, &session) {
+    let later = LaterCapture {
+        session: &session,
+        origins: origins.as_slice(),
+    };
+    if let Ok(amendment) = amendment_after_cuts(alloc, declared, first, cuts, &later) {
         remark_on_output(alloc, declared, &amendment, cuts, remarks);
     }
 }
@@ -582,20 +591,21 @@ fn amendment_after_cuts(
     alloc: Global,
     declared: &[DeclaredVariable],
     first: Capture,
-    origins: &[usize],
     cuts: &[CutTicks],
-    session: &Session,
+    later: &LaterCapture<'_>,
 ) -> Result<Amendment, NoMemory>
     requires sound { IsSound (contents first) }
     requires sizes { HaveSizesOf (contents first).signals (declarations_of declared.now) }
-    requires come { IsLaterCapture (contents first) origins.now session.now.now }
+    requires come { IsLaterCapture (contents first) later.now.origins.now
+        later.now.session.now.now }
     ensures made { IfOk result (λ amendment. IsAmendmentFor (declarations_of declared.now)
-        (capture_after_cuts (contents first) cuts.now).signals origins.now
-        session.now.now.signals (amendment_contents amendment)) }
+        (capture_after_cuts (contents first) cuts.now).signals later.now.origins.now
+        later.now.session.now.now.signals (amendment_contents amendment)) }
     ensures apart { IfOk result (λ amendment. AreApart (amendment_contents amendment).codes) }
 {
     let first = after_cuts(alloc, first, cuts)?;
-    let amendment = amendment_for(alloc, declared, &first, origins, session.capture())?;
+    let last = later.session.capture();
+    let amendment = amendment_for(alloc, declared, &first, later.origins, last)?;
     Ok(amendment)
 }
 

@@ -1,3 +1,6 @@
+pub mod NarrowValue
+pub mod SignalPair
+pub mod SizedWaves
 pub mod WaveComparison
 pub mod ShortestRun
 pub mod Pairing

@@ -12,6 +12,7 @@ mod differences;
 mod laws;
 mod matching;
 mod names;
+mod narrow_value;
 mod occurrences;
 mod outcomes;
 mod pairing;
@@ -20,6 +21,7 @@ mod planning;
 mod request;
 mod shortest_run;
 mod side;
+mod sized_waves;
 mod times;
 mod timescales;
 mod walk;
@@ -33,6 +35,7 @@ pub use laws::{
     finds_each_difference, only_the_window_counts, partners_are_mutual, same_within_tolerance,
     same_without_tolerance,
 };
+pub use names::name_of;
 pub use pairing::partners;
 pub use pairs::ComparedPair;
 pub use request::{CompareRefusal, CompareRequest, NameMap};

@@ -26,8 +26,8 @@ pub fn names_of(alloc: Global, signals: &Declarations) -> Result<Vec<Vec<u8>>, N
     Ok(names)
 }
 
-/// The full name of a signal.
-fn name_of(alloc: Global, signal: DeclaredSignal<'_>) -> Result<Vec<u8>, NoMemory>
+/// The full name of a signal, in a list of its own.
+pub fn name_of(alloc: Global, signal: DeclaredSignal<'_>) -> Result<Vec<u8>, NoMemory>
     ensures { IfOk result (λ name. name.items ≡ full_name (signal_declared signal.entry)) }
 {
     let name = copy_name(alloc, FullName::of_words(signal.scopes, signal.words))?;

@@ -1,23 +1,25 @@
 //! The pairs of signals that are compared, while the changes of both captures come.
 
 ghost use Rattle.std.specs.Prelude.{◌≡◌, ◌<◌, ◌≤◌, ◌-◌, ◌^◌, ◌++◌, ◌∷◌, [], ℕ, List, Some};
-ghost use Rattle.std.specs.Prelude.{map, length, slice_index_or, IfOk, OnOk};
+ghost use Rattle.std.specs.Prelude.{map, length, IfOk, OnOk};
 ghost use Rattle.vcd_core.specs.declared.bit.Bit.{Bit as Letter};
 ghost use Rattle.vcd_text.specs.Letters as letters;
-ghost use Rattle.vcd_compare.specs.declared.pairs.SignalPair.{SignalPair as PairBefore};
 ghost use Rattle.vcd_compare.specs.inside.Occurrences.{HasOccurrences, IsLastPlace};
 ghost use Rattle.vcd_compare.specs.inside.Pairs.{AreListed, ArePairsAfter, variable_in, IsToldOf};
 ghost use Rattle.vcd_compare.specs.inside.Pairs.{chosen};
-ghost use Rattle.vcd_compare.specs.inside.Pairs.{AreTold, AreAsWide};
+ghost use Rattle.vcd_compare.specs.inside.Pairs.{AreTold, HasChanged};
 
 use crate::differences::{Difference, Differences};
+use crate::narrow_value::NarrowValue;
 use crate::occurrences::Occurrences;
 use crate::shortest_run::ShortestRun;
+use crate::sized_waves::SizedWaves;
 use crate::wave_comparison::{OpenDifference, WaveComparison};
 use crate::wave_pair::{Bounds, WaveFindings, WaveOutcome, WavePair};
 use std::alloc::Global;
-use vcd_core::{NoMemory, Value, WIDTH_LIMIT};
-use vcd_text::{TickRange, value_of_digits};
+use std::marker::Model;
+use vcd_core::{NoMemory, Value};
+use vcd_text::TickRange;
 
 /// Which of two captures.
 #[derive(Clone, Copy, Debug, PartialEq, Eq)]
@@ -49,29 +51,82 @@ pub struct SignalPair {
     pub second_variable: usize,
     /// The width of both.
     pub width: u64,
-    pub waves: WavePair<Value>,
+    pub waves: SizedWaves,
+}
+
+impl Model for SignalPair {
+    ghost use Rattle.vcd_compare.specs.inside.SignalPair.{PairContents};
+
+    ghost Value = { PairContents };
+
+    ghost use Rattle.vcd_compare.specs.inside.SizedWaves.{view_pair, IsSizedPair};
+
+    ghost view = { view_pair };
+
+    ghost invariant = { IsSizedPair };
+}
+
+impl SignalPair {
+    /// One of both variables has changed.
+    fn change(&mut self, bounds: Bounds, change: &VariableChange<'_>)
+        ensures others { self.new ≡ record self.old { waves = self.new.waves } }
+        ensures changed { (value : List Letter) →
+            letters.value_of_digits self.old.width change.now.digits.now ≡ Some value →
+            HasChanged bounds change.now.which change.now.tick value self.old.waves
+            self.new.waves }
+    {
+        self.waves.change(bounds, self.width, change);
+    }
+
+    /// What is told, if `last` is the last tick of the window.
+    fn finish(self, bounds: Bounds, last: u64) -> ComparedPair
+        ensures { last < 2 ^ 64 - 1 → IsToldOf bounds last self result }
+    {
+        let SignalPair {
+            first,
+            second,
+            waves,
+            ..
+        } = self;
+        let WaveOutcome {
+            differences,
+            short_run,
+        } = waves.finish(bounds, last);
+        ComparedPair {
+            first,
+            second,
+            differences,
+            short_run,
+        }
+    }
 }
 
 /// The types within a pair. A function that moves a pair names them in this way, since the prover
 /// does not find their modules by itself.
 type PairTypes = (
-    Value,
     TickRange,
-    OpenDifference<Value>,
-    Difference<Value>,
-    Differences<Value>,
-    WaveComparison<Value>,
-    ShortestRun<Value>,
-    WaveFindings<Value>,
-    WavePair<Value>,
+    TypesWithin<Value>,
+    TypesWithin<NarrowValue>,
+    SizedWaves,
 );
 
-/// A change of a variable.
+type TypesWithin<V> = (
+    V,
+    OpenDifference<V>,
+    Difference<V>,
+    Differences<V>,
+    WaveComparison<V>,
+    ShortestRun<V>,
+    WaveFindings<V>,
+    WavePair<V>,
+);
+
+/// A variable of one of the captures has from a tick on the value that these digits write.
 #[derive(Clone, Copy)]
-struct VariableChange {
-    which: Which,
-    tick: u64,
-    value: Value,
+pub struct VariableChange<'a> {
+    pub which: Which,
+    pub tick: u64,
+    pub digits: &'a [u8],
 }
 
 /// All pairs, up to a tick.
@@ -119,27 +174,21 @@ impl Pairs {
         Ok(())
     }
 
-    /// The variable of a capture has from a tick on the value that these digits write.
-    pub fn change(&mut self, which: Which, variable: usize, tick: u64, digits: &[u8])
+    /// A variable has changed.
+    pub fn change(&mut self, variable: usize, change: &VariableChange<'_>)
         ensures bounds { self.new.bounds ≡ self.old.bounds }
         ensures listed { (count others : ℕ) → AreListed count others self.old →
-            variable < chosen which count others → AreListed count others self.new }
-        ensures changed { (count others width : ℕ) (value : List Letter) →
-            AreListed count others self.old → variable < chosen which count others →
-            AreAsWide which variable width self.old.all.items →
-            1 ≤ width → width ≤ WIDTH_LIMIT →
-            letters.value_of_digits width digits.now ≡ Some value →
-            ArePairsAfter self.old.bounds which variable tick value self.old.all.items
-            self.new.all.items }
+            variable < chosen change.now.which count others → AreListed count others self.new }
+        ensures changed { (count others : ℕ) → AreListed count others self.old →
+            variable < chosen change.now.which count others →
+            ArePairsAfter self.old.bounds change.now.which variable change.now.tick
+            change.now.digits.now self.old.all.items self.new.all.items }
     {
-        let places = places_of(which, &self.of_first, &self.of_second);
+        let places = places_of(change.which, &self.of_first, &self.of_second);
         let Some(last) = places.last(variable) else {
             return;
         };
-        if let Some(value) = value_in(&self.all, last, digits) {
-            let change = VariableChange { which, tick, value };
-            change_all(&mut self.all, places, self.bounds, last, &change);
-        }
+        change_all(&mut self.all, places, self.bounds, last, change);
     }
 
     /// What is told of each pair, if `last` is the last tick of the window.
@@ -151,7 +200,7 @@ impl Pairs {
         let Pairs { bounds, all, .. } = self;
         let mut told = Vec::with_capacity(alloc, all.len())?;
         for pair in all {
-            told.push(finished(pair, bounds, last))?;
+            told.push(pair.finish(bounds, last))?;
         }
         Ok(told)
     }
@@ -167,63 +216,26 @@ fn places_of<'a>(which: Which, first: &'a Occurrences, second: &'a Occurrences) 
     }
 }
 
-/// The value that digits write, of the width of the pair at a place.
-fn value_in(all: &[SignalPair], place: usize, digits: &[u8]) -> Option<Value>
-    ensures { (default : PairBefore) (width : ℕ) → place < length all.now →
-        (slice_index_or all.now place default).width ≡ width → 1 ≤ width → width ≤ WIDTH_LIMIT →
-        result ≡ letters.value_of_digits width digits.now }
-{
-    let width = all.get(place)?.width;
-    if width == 0 || width > WIDTH_LIMIT {
-        return None;
-    }
-    value_of_digits(width, digits)
-}
-
 /// Changes each pair of a variable, from the last one on.
 fn change_all(
     all: &mut [SignalPair],
     places: &Occurrences,
     bounds: Bounds,
     last: usize,
-    change: &VariableChange,
+    change: &VariableChange<'_>,
 )
     ensures { (limit variable : ℕ) →
         HasOccurrences limit (map (variable_in change.now.which) all.old) places.now →
         IsLastPlace (map (variable_in change.now.which) all.old) (length all.old) variable
         (Some last) →
-        ArePairsAfter bounds change.now.which variable change.now.tick change.now.value all.old
-        all.new }
+        ArePairsAfter bounds change.now.which variable change.now.tick change.now.digits.now
+        all.old all.new }
 {
     let mut at = Some(last);
     while let Some(place) = at {
         if place < all.len() {
-            all[place]
-                .waves
-                .change(bounds, change.which, change.tick, change.value);
+            all[place].change(bounds, change);
         }
         at = places.before(place);
-    }
-}
-
-/// What is told of a pair.
-fn finished(pair: SignalPair, bounds: Bounds, last: u64) -> ComparedPair
-    ensures { last < 2 ^ 64 - 1 → IsToldOf bounds last pair result }
-{
-    let SignalPair {
-        first,
-        second,
-        waves,
-        ..
-    } = pair;
-    let WaveOutcome {
-        differences,
-        short_run,
-    } = waves.finish(bounds, last);
-    ComparedPair {
-        first,
-        second,
-        differences,
-        short_run,
     }
 }

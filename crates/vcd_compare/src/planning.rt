@@ -1,8 +1,7 @@
 //! The plan of a comparison, by the declarations of two files.
 
-ghost use Rattle.std.specs.Prelude.{◌≡◌, ◌≤◌, IfOk, length, map};
+ghost use Rattle.std.specs.Prelude.{◌≡◌, IfOk, length, map};
 ghost use Rattle.vcd_core.specs.Contents.{Contents};
-ghost use Rattle.vcd_core.specs.Value as values;
 ghost use Rattle.vcd_text.specs.Grammar.{ParseState, kept_variables, VariableDeclaration};
 ghost use Rattle.vcd_text.specs.inside.reading.ChangeStream.{IsStreamAt};
 ghost use Rattle.vcd_compare.specs.inside.Outcomes.{AreComparable, compared_positions};
@@ -16,9 +15,10 @@ use crate::names::names_of;
 use crate::outcomes::{only_in_second, outcomes_of, width_at};
 use crate::pairs::{Pairs, SignalPair};
 use crate::request::CompareRequest;
-use crate::wave_pair::{Bounds, WavePair};
+use crate::sized_waves::SizedWaves;
+use crate::wave_pair::Bounds;
 use std::alloc::Global;
-use vcd_core::{Bit, NoMemory, Value, WIDTH_LIMIT};
+use vcd_core::{NoMemory, WIDTH_LIMIT};
 use vcd_text::ChangeStream;
 
 /// What is told of the signals of two captures, before any change.
@@ -82,43 +82,39 @@ pub fn pairs_of(
     let mut pairs = Pairs::new(alloc, bounds, first.signals().len(), second.signals().len())?;
     for position in 0..outcomes.len() {
         if let Outcome::Compared(partner) = outcomes[position] {
-            pairs.push(pair_of(bounds, first, second, position, partner))?;
+            let pair = pair_of(alloc, bounds, first, second, (position, partner))?;
+            pairs.push(pair)?;
         }
     }
     Ok(pairs)
 }
 
-/// Two signals at the first tick of the window, all x.
+/// The two signals at these positions, at the first tick of the window, all x.
 fn pair_of(
+    alloc: Global,
     bounds: Bounds,
     first: &ChangeStream,
     second: &ChangeStream,
-    position: usize,
-    partner: usize,
-) -> SignalPair
+    positions: (usize, usize),
+) -> Result<SignalPair, NoMemory>
     requires first_at { (s : ParseState) × IsStreamAt first.now s }
     requires second_at { (t : ParseState) × IsStreamAt second.now t }
-    ensures first { result.first ≡ position }
-    ensures second { result.second ≡ partner }
-    ensures planned { (s t : ParseState) → IsStreamAt first.now s → IsStreamAt second.now t →
-        AreComparable (kept_variables s.declared) (kept_variables t.declared) position partner →
-        IsPlannedPair bounds (kept_variables s.declared) (kept_variables t.declared) result }
+    ensures first { IfOk result (λ pair. pair.first ≡ positions.0) }
+    ensures second { IfOk result (λ pair. pair.second ≡ positions.1) }
+    ensures planned { IfOk result (λ pair. (s t : ParseState) →
+        IsStreamAt first.now s → IsStreamAt second.now t →
+        AreComparable (kept_variables s.declared) (kept_variables t.declared) positions.0
+        positions.1 →
+        IsPlannedPair bounds (kept_variables s.declared) (kept_variables t.declared) pair) }
 {
-    let width = width_at(&first.signals(), position);
-    let x = all_x(width);
-    SignalPair {
+    let (position, partner) = positions;
+    let width = width_at(&first.signals(), position).max(1).min(WIDTH_LIMIT);
+    Ok(SignalPair {
         first: position,
         second: partner,
         first_variable: first.first_of(position),
         second_variable: second.first_of(partner),
         width,
-        waves: WavePair::new(bounds, x, x),
-    }
-}
-
-/// The value of a width that is x in every bit.
-fn all_x(width: u64) -> Value
-    ensures { 1 ≤ width → width ≤ WIDTH_LIMIT → result ≡ values.all_x width }
-{
-    Value::filled(width.max(1).min(WIDTH_LIMIT), Bit::X)
+        waves: SizedWaves::new(alloc, bounds, width)?,
+    })
 }

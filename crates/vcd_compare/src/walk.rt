@@ -16,7 +16,7 @@ ghost use Rattle.vcd_compare.specs.declared.walk.Walk.{Walk as WalkBefore};
 ghost use Rattle.vcd_compare.specs.declared.comparison.CompareError.TheVariants as errors;
 
 use crate::comparison::CompareError;
-use crate::pairs::{Pairs, Which};
+use crate::pairs::{Pairs, VariableChange, Which};
 use crate::side::Side;
 use std::alloc::Global;
 use vcd_core::Source;
@@ -250,7 +250,17 @@ fn give_change(side: &Side, pairs: &mut Pairs, which: Which, tick: u64)
     }
     let change = heard.get(side.taken);
     match change.target {
-        ChangeTarget::Kept(variable) => pairs.change(which, variable, tick, change.text),
+        ChangeTarget::Kept(variable) => {
+            let digits = change.text;
+            pairs.change(
+                variable,
+                &VariableChange {
+                    which,
+                    tick,
+                    digits,
+                },
+            );
+        }
         ChangeTarget::Skipped(_) => {}
     }
 }

@@ -24,15 +24,15 @@ verdict_status Same = 0
 verdict_status Different = 1
 verdict_status Partial = 3
 
--- the exit status for a fault of a capture
-abbrev pub capture_status : Fault → ℕ
-capture_status NoMemory = 5
-capture_status fault = 2
+-- the exit status of a capture that can't be read
+abbrev pub read_error_status : Fault → ℕ
+read_error_status NoMemory = 5
+read_error_status fault = 2
 
 -- the exit status of captures that can't be compared
 abbrev pub error_status : CompareError → ℕ
-error_status (errors.First e) = capture_status e.fault
-error_status (errors.Second e) = capture_status e.fault
+error_status (errors.First e) = read_error_status e.fault
+error_status (errors.Second e) = read_error_status e.fault
 error_status (errors.Refused refusal) = 2
 error_status errors.NoMemory = 5
 

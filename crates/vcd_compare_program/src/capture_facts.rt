@@ -11,13 +11,12 @@ ghost use Rattle.vcd_text.specs.inside.reading.DeclaredSignals.{declared_content
 ghost use Rattle.vcd_compare_program.specs.CaptureFacts as spec;
 ghost use Rattle.vcd_compare_program.specs.ReportLines.{signal_in};
 ghost use Rattle.vcd_compare_program.specs.inside.Facts.{HaveCounted, count_in, facts_of};
-ghost use Rattle.vcd_compare_program.specs.inside.Facts.{facts_of_signal};
-ghost use Rattle.vcd_compare_program.specs.inside.Facts.{shown_after};
+ghost use Rattle.vcd_compare_program.specs.inside.Facts.{facts_of_signal, shown_after};
 
 use indexmap::IndexMap;
 use std::alloc::Global;
-use vcd_compare::ComparedCapture;
-use vcd_core::{FullName, NoMemory, Timescale};
+use vcd_compare::{ComparedCapture, name_of};
+use vcd_core::{NoMemory, Timescale};
 use vcd_shell::{append_bytes, append_decimal, append_shown};
 use vcd_text::{ChangeStream, Declarations, DeclaredSignal};
 
@@ -125,7 +124,7 @@ fn reported_signal(
         HaveCounted names counts.old →
         HaveCounted (names ++ full_name (signal_declared signal.entry) ∷ []) counts.new) }
 {
-    let name = full_name(alloc, signal)?;
+    let name = name_of(alloc, signal)?;
     let mut shown = Vec::new(alloc);
     append_shown(&mut shown, name.as_slice())?;
     let namesakes = count(counts, name)?;
@@ -136,18 +135,6 @@ fn reported_signal(
         kind,
         width: signal.width,
     })
-}
-
-/// The full name of a signal.
-fn full_name(alloc: Global, signal: DeclaredSignal<'_>) -> Result<Vec<u8>, NoMemory>
-    ensures { IfOk result (λ name. name.items ≡ full_name (signal_declared signal.entry)) }
-{
-    let mut left = FullName::of_words(signal.scopes, signal.words);
-    let mut name = Vec::new(alloc);
-    while let Some(byte) = left.next_byte() {
-        name.push(byte)?;
-    }
-    Ok(name)
 }
 
 /// Counts a name. Returns how often it was counted before.

@@ -78,16 +78,16 @@ fn error_status(error: &CompareError) -> u8
     ensures status { result ≡ spec.error_status error.now }
 {
     match error {
-        CompareError::First(error) | CompareError::Second(error) => capture_status(error.fault),
+        CompareError::First(error) | CompareError::Second(error) => read_error_status(error.fault),
         CompareError::Refused(_) => 2,
         CompareError::NoMemory => 5,
     }
 }
 
-/// The exit status for a fault of a capture.
-fn capture_status(fault: Fault) -> u8
+/// The exit status of a capture that can't be read.
+fn read_error_status(fault: Fault) -> u8
     ensures most { result ≤ 5 }
-    ensures status { result ≡ spec.capture_status fault }
+    ensures status { result ≡ spec.read_error_status fault }
 {
     match fault {
         Fault::NoMemory => 5,

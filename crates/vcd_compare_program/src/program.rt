@@ -118,7 +118,8 @@ fn run_request<R: Runtime + AllocGlobal>(
     report_on_devices(rt.alloc(), first, second, asked, output)
 }
 
-/// Compares captures on these devices, and writes the report.
+/// Compares captures on these devices, and writes the report. It is a function of its own for the
+/// prover, which takes the devices apart once.
 fn report_on_devices<A: Source, B: Source, W: Sink>(
     alloc: Global,
     first: &mut A,

@@ -85,7 +85,7 @@ fn write_report<W: Sink>(report: Report, output: &mut W) -> Result<Verdict, Comp
     }
 }
 
-/// The report of a comparison, which ends here.
+/// The report of a comparison, whose memory is given back before the report is written.
 fn last_report_of(
     alloc: Global,
     asked: &ReportRequest,

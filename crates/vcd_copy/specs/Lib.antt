@@ -3,6 +3,7 @@ pub mod Pieces
 pub mod Ticks
 pub mod CutLaws
 pub mod Copied
+pub mod EndedItems
 pub mod VariableWords
 pub mod CopyEnds
 pub mod Marks

@@ -17,7 +17,7 @@ mod ended_items;
 mod pieces;
 mod variable_words;
 
-pub use amender::{AmendableItem, Amender, InPlace};
+pub use amender::{AmendableItem, Amender, EndedItem, InPlace, StampBytes};
 use copier::Copier;
 pub use copy_error::CopyError;
 use pieces::Held;

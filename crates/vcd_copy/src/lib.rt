@@ -12,6 +12,8 @@ mod copying;
 mod laws;
 mod marking;
 
-pub use copying::{AmendableItem, Amender, CopyError, InPlace, VariableWords, copy};
+pub use copying::{
+    AmendableItem, Amender, CopyError, EndedItem, InPlace, StampBytes, VariableWords, copy,
+};
 pub use laws::{file_is_cut, mark_changes_no_meaning};
 pub use marking::{Mark, MarkHead, Marked};

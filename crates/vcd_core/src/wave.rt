@@ -353,7 +353,7 @@ impl Wave {
             ≡ spliced_changes self.now.changes from to piece.now by) }
     {
         let alloc = *self.list.own.allocator();
-        let own = spliced_copy(alloc, self.list.as_slice(), from, to, piece, by)?;
+        let own = spliced_copy(alloc, self.list.as_slice(), from..to, piece, by)?;
         let mut list = WaveList { shared: None, own };
         list.make_shared()?;
         Ok(Wave {
@@ -389,7 +389,7 @@ impl Wave {
         ensures piece_capacity { vec_capacity piece.old ≤ vec_capacity piece.new }
     {
         match self.list.shared.take() {
-            Some(list) => splice_into(&mut self.list.own, list.as_slice(), from, to, piece, by),
+            Some(list) => splice_into(&mut self.list.own, list.as_slice(), from..to, piece, by),
             None => splice_changes(&mut self.list.own, from, to, piece, by),
         }
     }

@@ -1,0 +1,2 @@
+-- Lemmas about devices.
+pub mod shared

@@ -1,3 +1,6 @@
 -- The definitions of the devices.
 pub mod Sums
 pub mod OutputFaults
+pub mod Compared
+pub mod Places
+pub mod inside

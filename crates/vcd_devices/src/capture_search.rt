@@ -1,6 +1,9 @@
 //! What is looked for in the bytes of a capture as they are read: the mark of an earlier run, and
 //! whether the last line has a line feed.
 
+ghost use Rattle.std.specs.Prelude.{◌≡◌};
+ghost use Rattle.vcd_devices.specs.Places.{is_mark, is_over};
+
 use std::io::Eprint;
 use vcd_core::is_white_space;
 
@@ -29,6 +32,8 @@ enum Place {
     Comment,
     /// More words of a declaration, or of a comment.
     Within,
+    /// Words of a mark in the declarations.
+    Mark,
     /// `$enddefinitions`.
     LastDeclaration,
     /// All declarations.
@@ -68,6 +73,26 @@ impl CaptureSearch {
         self.has_mark
     }
 
+    /// Whether the first word of a mark in the declarations has come, and not its last one.
+    pub fn is_within_mark(&self) -> bool
+        ensures { result ≡ is_mark self.now.place }
+    {
+        match self.place {
+            Place::Mark => true,
+            _ => false,
+        }
+    }
+
+    /// Whether no mark can come any more.
+    pub fn is_over(&self) -> bool
+        ensures { result ≡ is_over self.now.place }
+    {
+        match self.place {
+            Place::Over => true,
+            _ => false,
+        }
+    }
+
     /// Whether bytes have come, and the last one is no line feed.
     pub fn ends_within_line(&self) -> bool {
         matches!(self.last, Some(byte) if byte != b'\n')
@@ -87,7 +112,7 @@ impl CaptureSearch {
     }
 
     /// Takes one byte more.
-    fn take(&mut self, byte: u8) {
+    pub fn take(&mut self, byte: u8) {
         if is_white_space(byte) {
             self.end_word();
             return;
@@ -104,7 +129,7 @@ impl CaptureSearch {
             return;
         }
         let word = self.word.get(..self.len).unwrap_or(b"");
-        if self.place.is_comment() && word == b"vcdedit-amend".as_slice() {
+        if self.place.is_comment() && is_title(word) {
             self.has_mark = true;
         }
         self.place = next_place(self.place, word);
@@ -124,12 +149,19 @@ fn next_place(place: Place, word: &[u8]) -> Place {
     let ends = word == b"$end".as_slice();
     match place {
         Place::Declarations => begun_declaration(word),
-        Place::Comment | Place::Within if ends => Place::Declarations,
+        Place::Comment | Place::Within | Place::Mark if ends => Place::Declarations,
+        Place::Comment if is_title(word) => Place::Mark,
         Place::Comment | Place::Within => Place::Within,
+        Place::Mark => Place::Mark,
         Place::LastDeclaration if ends => Place::Body,
         Place::Body if word == b"$comment".as_slice() => Place::FirstComment,
         Place::LastDeclaration | Place::Body | Place::FirstComment | Place::Over => Place::Over,
     }
+}
+
+/// Whether this is the first word of a mark.
+fn is_title(word: &[u8]) -> bool {
+    word == b"vcdedit-amend".as_slice()
 }
 
 /// What words end with of which this one begins a declaration.

@@ -9,8 +9,10 @@
 #![tactic(auto)]
 
 mod capture_search;
+mod compared;
 mod laws;
 mod memory_forecast;
+mod newest_mark;
 mod other_format;
 mod part_file;
 mod pass;
@@ -19,10 +21,13 @@ mod reasons;
 mod remarks;
 mod safe_file;
 mod summed;
+mod verify_fault;
 mod watched;
 
 pub use capture_search::{CaptureSearch, tell_earlier_mark, tell_unended_line};
+pub use compared::Compared;
 pub use laws::one_other_byte_shows;
+pub use newest_mark::read_newest_mark;
 pub use other_format::tell_other_format;
 pub use part_file::PartFile;
 pub use pass::{Pass, open_first_pass, open_pass};
@@ -31,4 +36,5 @@ pub use reasons::tell_reason;
 pub use remarks::Remarks;
 pub use safe_file::{OutputFault, SafeFile};
 pub use summed::Summed;
+pub use verify_fault::VerifyFault;
 pub use watched::{Watched, open_named};

@@ -17,8 +17,8 @@ use crate::code_uses::CodeUses;
 use crate::request::{Refusal, Request};
 use crate::window::is_up_to_first;
 use std::alloc::Global;
-use vcd_copy::{AmendableItem, Amender, InPlace};
-use vcd_core::{NoMemory, ScopeName, Sink};
+use vcd_copy::{AmendableItem, Amender, EndedItem, InPlace};
+use vcd_core::{NoMemory, Sink};
 use vcd_text::{Output, TickRange, write_bytes};
 
 /// A request, and how far the file is.
@@ -120,24 +120,21 @@ impl<W: Sink> Amender<W> for PartAmender<'_, '_> {
         }
     }
 
-    fn take(
-        &mut self,
-        output: &mut Output<W>,
-        item: AmendableItem,
-        code: &[u8],
-        scopes: &[ScopeName],
-        space: &[u8],
-        body: &[u8],
-    ) -> Result<(), NoMemory> {
-        match item {
-            AmendableItem::Variable => self.take_variable(output, scopes, space, body),
+    fn take(&mut self, output: &mut Output<W>, ended: &EndedItem) -> Result<(), NoMemory> {
+        match ended.item {
+            AmendableItem::Variable => self.take_variable(
+                output,
+                ended.scopes,
+                ended.space,
+                ended.body,
+            ),
             AmendableItem::EndDefinitions { timescale, .. } => {
-                self.end_declarations(output, timescale, space, body);
+                self.end_declarations(output, timescale, ended.space, ended.body);
                 Ok(())
             }
-            AmendableItem::Stamp { tick } => self.take_stamp(output, tick, space, body),
-            AmendableItem::Value => self.take_change(output, false, code, space, body),
-            AmendableItem::RealOrString => self.take_change(output, true, code, space, body),
+            AmendableItem::Stamp { tick } => self.take_stamp(output, tick, ended.space, ended.body),
+            AmendableItem::Value => self.take_change(output, false, ended),
+            AmendableItem::RealOrString => self.take_change(output, true, ended),
         }
     }
 

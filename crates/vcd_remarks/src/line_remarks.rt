@@ -14,7 +14,7 @@ use crate::remarks::remarks_on;
 use std::alloc::Global;
 use vcd_core::{Capture, Sink, write_and_flush};
 use vcd_journal::Session;
-use vcd_script::{LineObserver, MemoryResult, RunError, parse_line, run_lines};
+use vcd_script::{LineObserver, MemoryResult, RunError, RunInput, parse_line, run_lines};
 
 /// Runs the lines of a script as [`run_lines`] does, and writes the remarks on each before its
 /// reply. If memory runs out for them or their writer fails, no more are written, and the lines go
@@ -24,33 +24,33 @@ use vcd_script::{LineObserver, MemoryResult, RunError, parse_line, run_lines};
 pub fn run_remarked_lines<P: Sink, Q: Sink>(
     alloc: Global,
     session: &mut Session,
-    skipped: u64,
-    script: &[u8],
+    input: &RunInput<'_>,
     replies: &mut P,
     remarks: &mut Q,
 ) -> Result<u64, RunError>
     requires ready { P.has_failed replies.old ≡ false }
-    requires short { length script.now < 2 ^ 60 }
+    requires short { length input.now.script.now < 2 ^ 60 }
     ensures ran { IfOk result (λ refused.
-        RunsLines skipped (script_lines script.now) session.old session.new refused
-        (P.taken replies.old) (P.taken replies.new)) }
+        RunsLines input.now.skipped (script_lines input.now.script.now) session.old session.new
+        refused (P.taken replies.old) (P.taken replies.new)) }
     ensures not_failed { OnOk result (P.has_failed replies.new ≡ false) }
     ensures fault { IfErr result EndsAtLine }
     ensures failed { IfErr result (HasFailedAt (P.has_failed replies.new)
         (P.is_flushed replies.new)) }
-    ensures stopped { IfErr result (StopsInLines skipped (script_lines script.now) session.old
-        (P.taken replies.old) (P.taken replies.new)) }
+    ensures stopped { IfErr result (StopsInLines input.now.skipped
+        (script_lines input.now.script.now) session.old (P.taken replies.old)
+        (P.taken replies.new)) }
     // whatever the result
     ensures remarked { (count : ℕ)
         × HasPrefix (device_end Q.taken Q.has_failed remarks.old remarks.new) count
-        (session_remarks 1 session.old (script_lines script.now)) }
+        (session_remarks 1 session.old (script_lines input.now.script.now)) }
 {
     let mut observer = LineRemarks {
         alloc,
         writer: remarks,
         has_ended: false,
     };
-    let ran = run_lines(alloc, session, skipped, script, replies, &mut observer);
+    let ran = run_lines(alloc, session, input, replies, &mut observer);
     // taken apart with each field named, as only so the prover knows what the writer is
     let LineRemarks {
         alloc: _,

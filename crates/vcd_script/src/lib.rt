@@ -25,7 +25,7 @@ pub use laws::{cut_file_is_read_again, same_bytes_same_result, session_lines_are
 pub use replies::appending::{append_bytes, append_decimal, append_number};
 pub use replies::{MemoryResult, Reply, answer_line, is_no_memory, scalar_wave, wave_or_absent};
 pub use running::run::run;
-pub use running::run_lines::run_lines;
+pub use running::run_lines::{RunInput, run_lines};
 pub use running::run_on_bytes::{RunRefusal, RunTexts, Stage, run_on_bytes};
 pub use running::{LineObserver, RunError, SCRIPT_LIMIT, Summary, Unobserved, read_script};
 pub use script::{Command, Keyword, LineError, parse_line, split_line};

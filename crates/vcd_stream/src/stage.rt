@@ -71,6 +71,20 @@ pub struct Stage<V> {
     pub last: V,
 }
 
+/// The value that a stage gave last, and the width of its wave.
+#[derive(Clone, Copy)]
+struct LastGiven<V> {
+    width: u64,
+    value: V,
+}
+
+/// Replaced ticks, and the value that they get.
+#[derive(Clone, Copy)]
+struct Replaced<V> {
+    ticks: ReplacedTicks,
+    value: V,
+}
+
 impl<V: Letters> Stage<V> {
     /// Takes the next change of a wave of `width` bits, and gives the changes that are settled by
     /// it.
@@ -84,18 +98,20 @@ impl<V: Letters> Stage<V> {
         requires most { width ≤ V.widest }
         ensures { IfOk result (GoesOn (V.letters width) out.old.items out.new.items self change) }
     {
-        let last = self.last;
+        let value = self.last;
+        let last = LastGiven { width, value };
         let work = self.work;
         match &work {
-            Work::Invert => take_inverse(out, width, last, change),
-            Work::Deglitch { ticks, held } => take_run(out, width, last, *ticks, *held, change),
-            Work::Later { by, end } => take_later(out, width, last, *by, *end, change),
+            Work::Invert => take_inverse(out, last, change),
+            Work::Deglitch { ticks, held } => take_run(out, last, *ticks, *held, change),
+            Work::Later { by, end } => take_later(out, last, *by, *end, change),
             Work::Replace { ticks, value, now } => {
-                take_replaced(out, width, last, *ticks, *value, *now, change)
+                let (ticks, value) = (*ticks, *value);
+                take_replaced(out, last, Replaced { ticks, value }, *now, change)
             }
-            Work::Hide { ticks, now } => take_hidden(out, width, last, *ticks, *now, change),
-            Work::Earlier { by } => take_earlier(out, width, last, *by, change),
-            Work::OfFile { held } => take_of_file(out, width, last, *held, change),
+            Work::Hide { ticks, now } => take_hidden(out, last, *ticks, *now, change),
+            Work::Earlier { by } => take_earlier(out, last, *by, change),
+            Work::OfFile { held } => take_of_file(out, last, *held, change),
         }
     }
 
@@ -106,15 +122,17 @@ impl<V: Letters> Stage<V> {
         ensures { OnOk result (all_seen (V.letters width) out.new.items
             ≡ all_seen (V.letters width) out.old.items ++ given (V.letters width) self []) }
     {
-        let last = self.last;
+        let value = self.last;
+        let last = LastGiven { width, value };
         let work = self.work;
         match &work {
-            Work::Deglitch { ticks: _, held } => finish_with(out, width, last, *held),
+            Work::Deglitch { ticks: _, held } => finish_with(out, last, *held),
             Work::Replace { ticks, value, now } => {
-                finish_replaced(out, width, last, *ticks, *value, *now)
+                let (ticks, value) = (*ticks, *value);
+                finish_replaced(out, last, Replaced { ticks, value }, *now)
             }
-            Work::Hide { ticks, now } => finish_hidden(out, width, last, *ticks, *now),
-            Work::OfFile { held } => finish_with(out, width, last, *held),
+            Work::Hide { ticks, now } => finish_hidden(out, last, *ticks, *now),
+            Work::OfFile { held } => finish_with(out, last, *held),
             Work::Invert => Ok(()),
             Work::Later { .. } => Ok(()),
             Work::Earlier { .. } => Ok(()),
@@ -125,19 +143,20 @@ impl<V: Letters> Stage<V> {
 /// Gives a change, unless it repeats the value given last. The result is the value given last.
 fn give<V: Letters>(
     out: &mut Vec<ChangeTo<V>>,
-    width: u64,
-    last: V,
+    last: LastGiven<V>,
     change: ChangeTo<V>,
 ) -> Result<V, NoMemory>
-    requires least { 1 ≤ width }
-    requires most { width ≤ V.widest }
+    requires least { 1 ≤ last.width }
+    requires most { last.width ≤ V.widest }
     ensures { IfOk result (λ v. (more : List ChangeView)
-        → all_seen (V.letters width) out.new.items ++ without_repeats (V.letters width v) more
-        ≡ all_seen (V.letters width) out.old.items ++ without_repeats (V.letters width last)
-        (seen (V.letters width) change ∷ more)) }
+        → all_seen (V.letters last.width) out.new.items
+        ++ without_repeats (V.letters last.width v) more
+        ≡ all_seen (V.letters last.width) out.old.items
+        ++ without_repeats (V.letters last.width last.value)
+        (seen (V.letters last.width) change ∷ more)) }
 {
-    if change.value.has_letters_of(&last, width) {
-        return Ok(last);
+    if change.value.has_letters_of(&last.value, last.width) {
+        return Ok(last.value);
     }
     out.push(change)?;
     Ok(change.value)
@@ -145,18 +164,17 @@ fn give<V: Letters>(
 
 fn take_inverse<V: Letters>(
     out: &mut Vec<ChangeTo<V>>,
-    width: u64,
-    last: V,
+    last: LastGiven<V>,
     change: ChangeTo<V>,
 ) -> Result<Stage<V>, NoMemory>
-    requires least { 1 ≤ width }
-    requires most { width ≤ V.widest }
-    ensures { IfOk result (GoesOn (V.letters width) out.old.items out.new.items
-        (record { work = works.Invert; last = last }) change) }
+    requires least { 1 ≤ last.width }
+    requires most { last.width ≤ V.widest }
+    ensures { IfOk result (GoesOn (V.letters last.width) out.old.items out.new.items
+        (record { work = works.Invert; last = last.value }) change) }
 {
     let tick = change.tick;
     let value = change.value.inverse();
-    let last = give(out, width, last, ChangeTo { tick, value })?;
+    let last = give(out, last, ChangeTo { tick, value })?;
     Ok(Stage {
         work: Work::Invert,
         last,
@@ -172,66 +190,65 @@ fn begins_steady_before(tick: u64, ticks: u64, next: u64) -> bool
 
 fn take_run<V: Letters>(
     out: &mut Vec<ChangeTo<V>>,
-    width: u64,
-    last: V,
+    last: LastGiven<V>,
     ticks: u64,
     held: ChangeTo<V>,
     change: ChangeTo<V>,
 ) -> Result<Stage<V>, NoMemory>
-    requires least { 1 ≤ width }
-    requires most { width ≤ V.widest }
-    ensures { IfOk result (GoesOn (V.letters width) out.old.items out.new.items
-        (record { work = works.Deglitch ticks held; last = last }) change) }
+    requires least { 1 ≤ last.width }
+    requires most { last.width ≤ V.widest }
+    ensures { IfOk result (GoesOn (V.letters last.width) out.old.items out.new.items
+        (record { work = works.Deglitch ticks held; last = last.value }) change) }
 {
     let work = Work::Deglitch {
         ticks,
         held: change,
     };
     if !begins_steady_before(held.tick, ticks, change.tick) {
+        let last = last.value;
         return Ok(Stage { work, last });
     }
-    let last = give(out, width, last, held)?;
+    let last = give(out, last, held)?;
     Ok(Stage { work, last })
 }
 
 fn take_later<V: Letters>(
     out: &mut Vec<ChangeTo<V>>,
-    width: u64,
-    last: V,
+    last: LastGiven<V>,
     by: u64,
     end: u64,
     change: ChangeTo<V>,
 ) -> Result<Stage<V>, NoMemory>
-    requires least { 1 ≤ width }
-    requires most { width ≤ V.widest }
-    ensures { IfOk result (GoesOn (V.letters width) out.old.items out.new.items
-        (record { work = works.Later by end; last = last }) change) }
+    requires least { 1 ≤ last.width }
+    requires most { last.width ≤ V.widest }
+    ensures { IfOk result (GoesOn (V.letters last.width) out.old.items out.new.items
+        (record { work = works.Later by end; last = last.value }) change) }
 {
     let work = Work::Later { by, end };
     if by > end || change.tick > end - by {
+        let last = last.value;
         return Ok(Stage { work, last });
     }
     let tick = change.tick + by;
     let value = change.value;
-    let last = give(out, width, last, ChangeTo { tick, value })?;
+    let last = give(out, last, ChangeTo { tick, value })?;
     Ok(Stage { work, last })
 }
 
 fn take_earlier<V: Letters>(
     out: &mut Vec<ChangeTo<V>>,
-    width: u64,
-    last: V,
+    last: LastGiven<V>,
     by: u64,
     change: ChangeTo<V>,
 ) -> Result<Stage<V>, NoMemory>
-    requires least { 1 ≤ width }
-    requires most { width ≤ V.widest }
-    ensures { IfOk result (GoesOn (V.letters width) out.old.items out.new.items
-        (record { work = works.Earlier by; last = last }) change) }
+    requires least { 1 ≤ last.width }
+    requires most { last.width ≤ V.widest }
+    ensures { IfOk result (GoesOn (V.letters last.width) out.old.items out.new.items
+        (record { work = works.Earlier by; last = last.value }) change) }
 {
     let tick = change.tick.saturating_sub(by);
     let value = change.value;
-    let last = give(out, width, last, ChangeTo { tick, value })?;
+    let last = give(out, last, ChangeTo { tick, value })?;
     Ok(Stage {
         work: Work::Earlier { by },
         last,
@@ -240,149 +257,152 @@ fn take_earlier<V: Letters>(
 
 fn take_hidden<V: Letters>(
     out: &mut Vec<ChangeTo<V>>,
-    width: u64,
-    last: V,
+    last: LastGiven<V>,
     ticks: ReplacedTicks,
     now: V,
     change: ChangeTo<V>,
 ) -> Result<Stage<V>, NoMemory>
-    requires least { 1 ≤ width }
-    requires most { width ≤ V.widest }
-    ensures { IfOk result (GoesOn (V.letters width) out.old.items out.new.items
-        (record { work = works.Hide ticks now; last = last }) change) }
+    requires least { 1 ≤ last.width }
+    requires most { last.width ≤ V.widest }
+    ensures { IfOk result (GoesOn (V.letters last.width) out.old.items out.new.items
+        (record { work = works.Hide ticks now; last = last.value }) change) }
 {
     if change.tick.saturating_sub(ticks.by) <= ticks.until {
         let work = Work::Hide {
             ticks,
             now: change.value,
         };
+        let last = last.value;
         return Ok(Stage { work, last });
     }
     let shown = ChangeTo {
         tick: ticks.until,
         value: now,
     };
-    let last = give(out, width, last, shown)?;
-    take_earlier(out, width, last, ticks.by, change)
+    let width = last.width;
+    let value = give(out, last, shown)?;
+    take_earlier(out, LastGiven { width, value }, ticks.by, change)
 }
 
 /// Gives the change to the value of the replaced ticks, if there is one.
 fn begin_replaced<V: Letters>(
     out: &mut Vec<ChangeTo<V>>,
-    width: u64,
-    last: V,
-    ticks: ReplacedTicks,
-    value: V,
+    last: LastGiven<V>,
+    replaced: Replaced<V>,
 ) -> Result<V, NoMemory>
-    requires least { 1 ≤ width }
-    requires most { width ≤ V.widest }
+    requires least { 1 ≤ last.width }
+    requires most { last.width ≤ V.widest }
     ensures { IfOk result (λ v. (more : List ChangeView)
-        → all_seen (V.letters width) out.new.items ++ without_repeats (V.letters width v) more
-        ≡ all_seen (V.letters width) out.old.items ++ without_repeats (V.letters width last)
-        (begun ticks (V.letters width value) more)) }
+        → all_seen (V.letters last.width) out.new.items
+        ++ without_repeats (V.letters last.width v) more
+        ≡ all_seen (V.letters last.width) out.old.items
+        ++ without_repeats (V.letters last.width last.value)
+        (begun replaced.ticks (V.letters last.width replaced.value) more)) }
 {
+    let Replaced { ticks, value } = replaced;
     if ticks.from >= ticks.until {
-        return Ok(last);
+        return Ok(last.value);
     }
     let tick = ticks.from;
-    give(out, width, last, ChangeTo { tick, value })
+    give(out, last, ChangeTo { tick, value })
 }
 
 fn take_replaced<V: Letters>(
     out: &mut Vec<ChangeTo<V>>,
-    width: u64,
-    last: V,
-    ticks: ReplacedTicks,
-    value: V,
+    last: LastGiven<V>,
+    replaced: Replaced<V>,
     now: V,
     change: ChangeTo<V>,
 ) -> Result<Stage<V>, NoMemory>
-    requires least { 1 ≤ width }
-    requires most { width ≤ V.widest }
-    ensures { IfOk result (GoesOn (V.letters width) out.old.items out.new.items
-        (record { work = works.Replace ticks value now; last = last }) change) }
+    requires least { 1 ≤ last.width }
+    requires most { last.width ≤ V.widest }
+    ensures { IfOk result (GoesOn (V.letters last.width) out.old.items out.new.items
+        (record { work = works.Replace replaced.ticks replaced.value now; last = last.value })
+        change) }
 {
+    let Replaced { ticks, value } = replaced;
     if change.tick < ticks.from {
-        let last = give(out, width, last, change)?;
+        let last = give(out, last, change)?;
         let now = change.value;
         let work = Work::Replace { ticks, value, now };
         return Ok(Stage { work, last });
     }
-    let last = begin_replaced(out, width, last, ticks, value)?;
-    take_hidden(out, width, last, ticks, now, change)
+    let width = last.width;
+    let value = begin_replaced(out, last, replaced)?;
+    take_hidden(out, LastGiven { width, value }, ticks, now, change)
 }
 
 fn take_of_file<V: Letters>(
     out: &mut Vec<ChangeTo<V>>,
-    width: u64,
-    last: V,
+    last: LastGiven<V>,
     held: ChangeTo<V>,
     change: ChangeTo<V>,
 ) -> Result<Stage<V>, NoMemory>
-    requires least { 1 ≤ width }
-    requires most { width ≤ V.widest }
-    ensures { IfOk result (GoesOn (V.letters width) out.old.items out.new.items
-        (record { work = works.OfFile held; last = last }) change) }
+    requires least { 1 ≤ last.width }
+    requires most { last.width ≤ V.widest }
+    ensures { IfOk result (GoesOn (V.letters last.width) out.old.items out.new.items
+        (record { work = works.OfFile held; last = last.value }) change) }
 {
     let work = Work::OfFile { held: change };
     if change.tick <= held.tick {
+        let last = last.value;
         return Ok(Stage { work, last });
     }
-    let last = give(out, width, last, held)?;
+    let last = give(out, last, held)?;
     Ok(Stage { work, last })
 }
 
 /// Gives one last change.
 fn finish_with<V: Letters>(
     out: &mut Vec<ChangeTo<V>>,
-    width: u64,
-    last: V,
+    last: LastGiven<V>,
     change: ChangeTo<V>,
 ) -> Result<(), NoMemory>
-    requires least { 1 ≤ width }
-    requires most { width ≤ V.widest }
-    ensures { OnOk result (all_seen (V.letters width) out.new.items
-        ≡ all_seen (V.letters width) out.old.items
-        ++ without_repeats (V.letters width last) (seen (V.letters width) change ∷ [])) }
+    requires least { 1 ≤ last.width }
+    requires most { last.width ≤ V.widest }
+    ensures { OnOk result (all_seen (V.letters last.width) out.new.items
+        ≡ all_seen (V.letters last.width) out.old.items
+        ++ without_repeats (V.letters last.width last.value)
+        (seen (V.letters last.width) change ∷ [])) }
 {
-    let _ = give(out, width, last, change)?;
+    let _ = give(out, last, change)?;
     Ok(())
 }
 
 fn finish_hidden<V: Letters>(
     out: &mut Vec<ChangeTo<V>>,
-    width: u64,
-    last: V,
+    last: LastGiven<V>,
     ticks: ReplacedTicks,
     now: V,
 ) -> Result<(), NoMemory>
-    requires least { 1 ≤ width }
-    requires most { width ≤ V.widest }
-    ensures { OnOk result (all_seen (V.letters width) out.new.items
-        ≡ all_seen (V.letters width) out.old.items
-        ++ without_repeats (V.letters width last) (shown_changes ticks (V.letters width now) [])) }
+    requires least { 1 ≤ last.width }
+    requires most { last.width ≤ V.widest }
+    ensures { OnOk result (all_seen (V.letters last.width) out.new.items
+        ≡ all_seen (V.letters last.width) out.old.items
+        ++ without_repeats (V.letters last.width last.value)
+        (shown_changes ticks (V.letters last.width now) [])) }
 {
     if ticks.until > ticks.end {
         return Ok(());
     }
     let tick = ticks.until;
-    finish_with(out, width, last, ChangeTo { tick, value: now })
+    finish_with(out, last, ChangeTo { tick, value: now })
 }
 
 fn finish_replaced<V: Letters>(
     out: &mut Vec<ChangeTo<V>>,
-    width: u64,
-    last: V,
-    ticks: ReplacedTicks,
-    value: V,
+    last: LastGiven<V>,
+    replaced: Replaced<V>,
     now: V,
 ) -> Result<(), NoMemory>
-    requires least { 1 ≤ width }
-    requires most { width ≤ V.widest }
-    ensures { OnOk result (all_seen (V.letters width) out.new.items
-        ≡ all_seen (V.letters width) out.old.items ++ without_repeats (V.letters width last)
-        (replaced_changes ticks (V.letters width value) (V.letters width now) [])) }
+    requires least { 1 ≤ last.width }
+    requires most { last.width ≤ V.widest }
+    ensures { OnOk result (all_seen (V.letters last.width) out.new.items
+        ≡ all_seen (V.letters last.width) out.old.items
+        ++ without_repeats (V.letters last.width last.value) (replaced_changes replaced.ticks
+        (V.letters last.width replaced.value) (V.letters last.width now) [])) }
 {
-    let last = begin_replaced(out, width, last, ticks, value)?;
-    finish_hidden(out, width, last, ticks, now)
+    let width = last.width;
+    let value = begin_replaced(out, last, replaced)?;
+    finish_hidden(out, LastGiven { width, value }, replaced.ticks, now)
 }

@@ -24,28 +24,6 @@ fn name_of_one_word(alloc: Global, text: &str) -> Result<NameWords, AllocError> 
     Ok(NameWords::new(Seq::from_vec(words)))
 }
 
-/// The capture of the file, with the signal's kind and name, the count of nanoseconds and the end
-/// as they are given.
-fn capture_of(
-    rt: &impl Abort,
-    alloc: Global,
-    kind: &str,
-    name: &str,
-    count: u64,
-    end: u64,
-) -> Result<Capture, Fail> {
-    let kind = word(alloc, kind)?;
-    let words = name_of_one_word(alloc, name)?;
-    let mut capture = load_file(alloc, FILE)?.capture;
-    assert!(rt; capture.signals.len() == 1);
-    capture.signals.item_mut(0).kind = kind;
-    capture.signals.item_mut(0).words = words;
-    let unit = TimeUnit::Nanosecond;
-    capture.timescale = Some(Timescale { count, unit });
-    capture.end = end;
-    Ok(capture)
-}
-
 #[test]
 fn a_capture_gives_its_parts(rt: HostRuntime) -> Result<(), Fail> {
     let capture = load_file(rt.alloc(), FILE)?.capture;
@@ -97,19 +75,28 @@ wire:a b:1:9 => not
 wire:a\r:1:9 => not
 wire:$end:1:9 => not";
 
-/// The capture of a row.
-fn capture_of_row(rt: &impl Abort, alloc: Global, fields: &str) -> Result<Capture, Fail> {
+/// The capture of the file with what a row gives.
+fn capture_of(rt: &impl Abort, alloc: Global, fields: &str) -> Result<Capture, Fail> {
     let (kind, rest) = fields.split_once(':').ok_or("no kind")?;
     let (name, numbers) = rest.split_once(':').ok_or("no name")?;
     let (count, end) = numbers.split_once(':').ok_or("no count")?;
     let (count, end) = (count.parse::<u64>()?, end.parse::<u64>()?);
-    capture_of(rt, alloc, kind, name, count, end)
+    let kind = word(alloc, kind)?;
+    let words = name_of_one_word(alloc, name)?;
+    let mut capture = load_file(alloc, FILE)?.capture;
+    assert!(rt; capture.signals.len() == 1);
+    capture.signals.item_mut(0).kind = kind;
+    capture.signals.item_mut(0).words = words;
+    let unit = TimeUnit::Nanosecond;
+    capture.timescale = Some(Timescale { count, unit });
+    capture.end = end;
+    Ok(capture)
 }
 
 /// Stops unless the capture of a row is sound, as the row says.
 fn check_sound(rt: &impl Abort, alloc: Global, row: &str) -> Result<(), Fail> {
     let (fields, answer) = row.split_once(" => ").ok_or("no answer")?;
-    let capture = capture_of_row(rt, alloc, fields)?;
+    let capture = capture_of(rt, alloc, fields)?;
     check_holds(rt, capture.is_sound() == (answer == "sound"), row);
     Ok(())
 }
@@ -124,16 +111,17 @@ fn a_capture_is_sound_where_a_file_can_say_it(rt: HostRuntime) -> Result<(), Fai
 
 #[test]
 fn the_greatest_end(rt: HostRuntime) -> Result<(), Fail> {
-    let greatest = capture_of(&rt, rt.alloc(), "wire", "a", 1, END_LIMIT)?;
-    assert!(rt; greatest.is_sound());
-    let past = capture_of(&rt, rt.alloc(), "wire", "a", 1, END_LIMIT + 1)?;
-    assert!(rt; !past.is_sound());
+    let mut capture = capture_of(&rt, rt.alloc(), "wire:a:1:9")?;
+    capture.end = END_LIMIT;
+    assert!(rt; capture.is_sound());
+    capture.end = END_LIMIT + 1;
+    assert!(rt; !capture.is_sound());
     Ok(())
 }
 
 #[test]
 fn a_signal_without_a_name_is_not_sound(rt: HostRuntime) -> Result<(), Fail> {
-    let mut capture = capture_of(&rt, rt.alloc(), "wire", "a", 1, 9)?;
+    let mut capture = capture_of(&rt, rt.alloc(), "wire:a:1:9")?;
     assert!(rt; capture.signals.len() == 1);
     capture.signals.item_mut(0).words = NameWords::new(Seq::new(rt.alloc()));
     assert!(rt; !capture.is_sound());

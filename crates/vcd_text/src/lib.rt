@@ -28,8 +28,8 @@ pub use reading::parser::{OpenItem, Parser};
 pub use reading::part_listener::PartListener;
 pub use reading::{
     ChangeStream, ChangeTarget, Choice, CodeTargets, Declarations, DeclaredSignal, FILE_LIMIT,
-    HeardChange, HeardChanges, LONG_FILE_LIMIT, Loaded, TickRange, VARIABLE_LIMIT, read, read_part,
-    value_of_digits,
+    HeardChange, HeardChanges, LONG_FILE_LIMIT, Loaded, TickRange, VARIABLE_LIMIT, read,
+    read_letter_block, read_part, value_of_digits,
 };
 pub use words::{WordOnLine, Words};
 pub use writing::declarations::are_same_words;

@@ -41,7 +41,7 @@ use crate::fault::ReadError;
 use crate::reading::choice::Whole;
 use crate::reading::file_reader::FileReader;
 use crate::reading::part_listener::PartListener;
-pub use binary_number::value_of_digits;
+pub use binary_number::{read_letter_block, value_of_digits};
 pub use change_stream::ChangeStream;
 pub use choice::{Choice, TickRange};
 pub use code_targets::CodeTargets;

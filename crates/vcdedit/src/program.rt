@@ -86,40 +86,48 @@ fn run_options<R: Runtime + AllocGlobal>(rt: &R, options: &Options<'_>) -> Resul
     ensures { IsOutcomeOfOptions (options_in options.now) result }
 {
     let capture = open_capture(rt, options.input).map_err(|_| NOT_OPENED)?;
-    let capture = &mut FromRead::new(capture);
+    let capture = FromRead::new(capture);
     match options.script {
         Some(path) => {
             let script = open_script(rt, path).map_err(|_| RunError::ScriptReadFault)?;
-            let script = &mut FromRead::new(script);
-            run_inputs(rt, capture, script, options.output, options.depth)
+            let script = FromRead::new(script);
+            let sources = &mut RunSources { capture, script };
+            run_inputs(rt, sources, options.output, options.depth)
         }
         None => {
-            let script = &mut FromBytes::new(DEFAULT_SCRIPT);
-            run_inputs(rt, capture, script, options.output, options.depth)
+            let script = FromBytes::new(DEFAULT_SCRIPT);
+            let sources = &mut RunSources { capture, script };
+            run_inputs(rt, sources, options.output, options.depth)
         }
     }
+}
+
+/// What a run reads.
+#[derive(Drop)]
+struct RunSources<C, S> {
+    capture: C,
+    script: S,
 }
 
 /// Runs with a buffer for the replies to standard output.
 fn run_inputs<R: Runtime + AllocGlobal, C: Source, S: Source>(
     rt: &R,
-    capture: &mut C,
-    script: &mut S,
+    sources: &mut RunSources<C, S>,
     output: Option<&str>,
     depth: u64,
 ) -> Result<Summary, RunError>
     requires depth_least { 1 ≤ depth }
     requires depth_most { depth ≤ DEPTH_LIMIT }
-    requires capture_ready { C.has_failed capture.old ≡ false }
-    requires script_ready { S.has_failed script.old ≡ false }
+    requires capture_ready { C.has_failed sources.old.capture ≡ false }
+    requires script_ready { S.has_failed sources.old.script ≡ false }
     ensures { (result ≡ Err NO_MEMORY) ⊎ IsOutcomeOn output.entry result depth
-        (device_end C.coming C.has_failed capture.old capture.new)
-        (device_end S.coming S.has_failed script.old script.new) }
+        (device_end C.coming C.has_failed sources.old.capture sources.new.capture)
+        (device_end S.coming S.has_failed sources.old.script sources.new.script) }
 {
     let writer = io::writer(rt);
     let buffer = BufWriter::with_capacity(rt.alloc(), BUFFER, writer).map_err(|_| NO_MEMORY)?;
     let mut replies = ToWrite::new(buffer);
-    let outcome = run_devices(rt, capture, script, &mut replies, output, depth);
+    let outcome = run_devices(rt, sources, &mut replies, output, depth);
     // what is left was flushed by the run, or else refused: it is not sent again
     let _ = replies.into_inner().into_parts();
     outcome
@@ -128,20 +136,19 @@ fn run_inputs<R: Runtime + AllocGlobal, C: Source, S: Source>(
 /// Runs with the file at `output` for the output, if there is one.
 fn run_devices<R: Runtime + AllocGlobal, C: Source, S: Source, P: Sink>(
     rt: &R,
-    capture: &mut C,
-    script: &mut S,
+    sources: &mut RunSources<C, S>,
     replies: &mut P,
     output: Option<&str>,
     depth: u64,
 ) -> Result<Summary, RunError>
     requires depth_least { 1 ≤ depth }
     requires depth_most { depth ≤ DEPTH_LIMIT }
-    requires capture_ready { C.has_failed capture.old ≡ false }
-    requires script_ready { S.has_failed script.old ≡ false }
+    requires capture_ready { C.has_failed sources.old.capture ≡ false }
+    requires script_ready { S.has_failed sources.old.script ≡ false }
     requires replies_ready { P.has_failed replies.old ≡ false }
     ensures { (out : Option DeviceEnd) × (is_some out ≡ is_some output.entry) × RunEnds depth
-        (device_end C.coming C.has_failed capture.old capture.new)
-        (device_end S.coming S.has_failed script.old script.new)
+        (device_end C.coming C.has_failed sources.old.capture sources.new.capture)
+        (device_end S.coming S.has_failed sources.old.script sources.new.script)
         (device_end P.taken P.has_failed replies.old replies.new) out result }
 {
     // no buffer, since `write` of `vcd_text` has its own
@@ -149,5 +156,12 @@ fn run_devices<R: Runtime + AllocGlobal, C: Source, S: Source, P: Sink>(
         Some(path) => Some(ToWrite::new(LateFile::new(rt, path))),
         None => None,
     };
-    run(rt.alloc(), capture, script, replies, out.as_mut(), depth)
+    run(
+        rt.alloc(),
+        &mut sources.capture,
+        &mut sources.script,
+        replies,
+        out.as_mut(),
+        depth,
+    )
 }

@@ -80,13 +80,13 @@ module _ (m : CutAmender) (before : List Piece) (at : HasSeenAll m before) (p : 
   held = held_for cut before
 
   -- what comes in the place of a change
-  pub change_step : step_for cut before p ≡ (if m.is_cut then [] else p ∷ [])
+  pub change_step : step_for cut before p ≡ (if m.last.is_cut then [] else p ∷ [])
   change_step = (change_after cut s held p (key_of is_text code) here.key).step
       ∙ ap (λ (b : Bool). if b then [] else p ∷ []) (sym at.is_cut)
 
   change_held : held_of_step cut s held p
       ≡ filter (λ q. not (counts_with (has_kept_variable s) (key_of is_text code) (change_key q.item))) held
-      ++ (if m.is_cut && (code_target m.variables code).lasts then p ∷ [] else [])
+      ++ (if m.last.is_cut && (code_target m.variables code).lasts then p ∷ [] else [])
   change_held = (change_after cut s held p (key_of is_text code) here.key).holds
       ∙ ap₂ (λ (a b : Bool). filter (λ q. not (counts_with (has_kept_variable s) (key_of is_text code) (change_key
       q.item))) held ++ (if a && b then p ∷ [] else [])) (sym at.is_cut)
@@ -111,14 +111,14 @@ module _ (m : CutAmender) (before : List Piece) (at : HasSeenAll m before) (p : 
 
   -- an amender after a change
   pub change_seen : (inner : FileAmender) (holding : Vec HeldChange) (room : ℕ)
-      → HasSeen inner (sent ++ (if m.is_cut then [] else p ∷ []))
+      → HasSeen inner (sent ++ (if m.last.is_cut then [] else p ∷ []))
       → ArePieces (last_held holding.items)
       (filter (λ q. not (counts_with (has_kept_variable s) (key_of is_text code) (change_key q.item))) held
-      ++ (if m.is_cut && (code_target m.variables code).lasts then p ∷ [] else []))
+      ++ (if m.last.is_cut && (code_target m.variables code).lasts then p ∷ [] else []))
       → HasSeenAll (record m { inner = inner; held = holding; room = room }) (before ++ p ∷ [])
   change_seen inner holding room seen holds =
       let c = change_after cut s held p (key_of is_text code) here.key in
-      let same = with_change m.is_cut (step_for cut before p) change_step in
+      let same = with_change m.last.is_cut (step_for cut before p) change_step in
       written_more (record m { inner = inner; held = holding; room = room }) before p (record {
         seen = subst (λ l. HasSeen inner (sent ++ l)) (sym change_step) seen;
         holds = subst (ArePieces (last_held holding.items)) (sym change_held) holds;
@@ -126,7 +126,7 @@ module _ (m : CutAmender) (before : List Piece) (at : HasSeenAll m before) (p : 
         kept = λ key. at.kept key ∙ sym (kept_as (state_after_item s p.item) s key (c.declared s));
         is_cut = at.is_cut ∙ sym (ap cut (c.tick s));
         tick = at.tick ∙ sym (ap (new_tick cut) (c.tick s));
-        behind = subst (λ (t : ℕ). t ≤ m.tick) (sym same.0) at.behind;
+        behind = subst (λ (t : ℕ). t ≤ m.last.tick) (sym same.0) at.behind;
         scopes = same.1 ∙ at.scopes ∙ sym (c.scopes s);
       })
 
@@ -162,14 +162,15 @@ module _ (r : List Piece) (t : ℕ) (small : t < 2 ^ 64) (hs : List HeldChange) 
       (subst (λ (n : ℕ). n ≤ t) (sym after.0) upto, after.1)
 
 -- an amender after the held changes are written
-pub released_written : (m : CutAmender) (before : List Piece) → HasSeenAll m before → m.tick < 2 ^ 64
+pub released_written : (m : CutAmender) (before : List Piece) → HasSeenAll m before → m.last.tick < 2 ^ 64
     → (inner : FileAmender) (empty : Vec HeldChange) (line : Vec ℕ) → empty.items ≡ []
-    → HasSeen inner (sent_for (cut_of m) before ++ released m.is_cut m.tick (held_for (cut_of m) before))
+    → HasSeen inner (sent_for (cut_of m) before ++ released m.last.is_cut m.last.tick (held_for (cut_of m) before))
     → HasWritten (record m { inner = inner; held = empty; stamp = line })
-    (sent_for (cut_of m) before ++ released m.is_cut m.tick (held_for (cut_of m) before)) [] (state_of_pieces 0 before)
+    (sent_for (cut_of m) before ++ released m.last.is_cut m.last.tick (held_for (cut_of m) before)) [] (state_of_pieces
+    0 before)
 unfolding last_held
 released_written m before at small inner empty line none seen =
-    let after = released_state (sent_for (cut_of m) before) m.tick small (last_held m.held.items) m.is_cut
+    let after = released_state (sent_for (cut_of m) before) m.last.tick small (last_held m.held.items) m.last.is_cut
     (held_for (cut_of m) before) at.holds at.behind in
     record {
       seen = seen;
@@ -183,16 +184,16 @@ released_written m before at small inner empty line none seen =
     }
 
 -- the same, if the next tick is past the last one
-pub released_past : (m : CutAmender) (before : List Piece) → HasSeenAll m before → m.tick < 2 ^ 64
-    → (inner : FileAmender) (empty : Vec HeldChange) (line : Vec ℕ) (n : ℕ) → empty.items ≡ [] → m.tick < n
-    → HasSeen inner (sent_for (cut_of m) before ++ released m.is_cut m.tick (held_for (cut_of m) before))
+pub released_past : (m : CutAmender) (before : List Piece) → HasSeenAll m before → m.last.tick < 2 ^ 64
+    → (inner : FileAmender) (empty : Vec HeldChange) (line : Vec ℕ) (n : ℕ) → empty.items ≡ [] → m.last.tick < n
+    → HasSeen inner (sent_for (cut_of m) before ++ released m.last.is_cut m.last.tick (held_for (cut_of m) before))
     → HasWritten (record m { inner = inner; held = empty; stamp = line })
     (sent_for (cut_of m) before ++ released_before m n (held_for (cut_of m) before))
-    (if nat_lt m.tick n then [] else held_for (cut_of m) before) (state_of_pieces 0 before)
+    (if nat_lt m.last.tick n then [] else held_for (cut_of m) before) (state_of_pieces 0 before)
 released_past m before at small inner empty line n none past seen =
     subst (λ (b : Bool). HasWritten (record m { inner = inner; held = empty; stamp = line })
-    (sent_for (cut_of m) before ++ (if b then released m.is_cut m.tick (held_for (cut_of m) before) else []))
-    (if b then [] else held_for (cut_of m) before) (state_of_pieces 0 before)) (sym (lt-ltb m.tick n past))
+    (sent_for (cut_of m) before ++ (if b then released m.last.is_cut m.last.tick (held_for (cut_of m) before) else []))
+    (if b then [] else held_for (cut_of m) before) (state_of_pieces 0 before)) (sym (lt-ltb m.last.tick n past))
     (released_written m before at small inner empty line none seen)
 
 -- ---- stamps
@@ -248,19 +249,20 @@ module _ (m n : CutAmender) (before : List Piece) (p : Piece) (digits : List ℕ
   stamped_step =
       ap (λ (i : Item). pieces_of_step (cut_of m) (state_of_pieces 0 before) (held_for (cut_of m) before)
       (record { item = i; space = p.space; body = p.body })) is
-      ∙ stamp_step (cut_of m) (state_of_pieces 0 before) (held_for (cut_of m) before) digits p.space p.body b m.is_cut
-      new m.tick b_is new_is at.is_cut at.tick
+      ∙ stamp_step (cut_of m) (state_of_pieces 0 before) (held_for (cut_of m) before) digits p.space p.body b
+      m.last.is_cut
+      new m.last.tick b_is new_is at.is_cut at.tick
       ∙ ap (λ (i : Item). released_before m new (held_for (cut_of m) before) ++ (if b then []
       else retimed_stamp_piece new (number_of digits) (record { item = i; space = p.space; body = p.body }) ∷ []))
       (sym is)
 
   stamped_held : held_of_step (cut_of m) (state_of_pieces 0 before) (held_for (cut_of m) before) p
-      ≡ (if nat_lt m.tick new then [] else held_for (cut_of m) before)
+      ≡ (if nat_lt m.last.tick new then [] else held_for (cut_of m) before)
   stamped_held =
       ap (λ (i : Item). held_of_step (cut_of m) (state_of_pieces 0 before) (held_for (cut_of m) before)
       (record { item = i; space = p.space; body = p.body })) is
       ∙ stamp_held (cut_of m) (state_of_pieces 0 before) (held_for (cut_of m) before) digits p.space p.body
-      new m.tick new_is at.tick
+      new m.last.tick new_is at.tick
 
   number_by : (e : Bool) → (new == number_of digits) ≡ e
       → (state_after_item (state_of_pieces 0 all_before) (if e then p else record {
@@ -300,32 +302,34 @@ module _ (m n : CutAmender) (before : List Piece) (p : Piece) (digits : List ℕ
             ∙ ap (λ (u : ParseState). u.scopes) (state_with all_before q) ∙ scopes_by (new == number_of digits),
       )
 
-  pub before_new : HasWritten n all_before (if nat_lt m.tick new then [] else held_for (cut_of m) before)
+  pub before_new : HasWritten n all_before (if nat_lt m.last.tick new then [] else held_for (cut_of m) before)
       (state_of_pieces 0 before)
       → (state_of_pieces 0 before).tick ≤ number_of digits → (state_of_pieces 0 all_before).tick ≤ new
   before_new has later =
       let s = state_of_pieces 0 before in
       let rise : new_tick (cut_of m) s.tick ≤ new_tick (cut_of m) (number_of digits) =
       rises (cut_of m) s.tick (number_of digits) later in
-      let n_tick : n.tick ≡ new_tick (cut_of m) s.tick =
+      let n_tick : n.last.tick ≡ new_tick (cut_of m) s.tick =
       has.tick ∙ ap (λ (cs : List CutTicks). new_tick (is_cut_by cs) s.tick) same in
       omega (arith, has.behind, n_tick, new_is, rise)
 
-  pub stamped_seen : HasWritten n all_before (if nat_lt m.tick new then [] else held_for (cut_of m) before)
+  pub stamped_seen : HasWritten n all_before (if nat_lt m.last.tick new then [] else held_for (cut_of m) before)
       (state_of_pieces 0 before)
       → (state_of_pieces 0 before).tick ≤ number_of digits
       → (inner : FileAmender) (line : Vec ℕ) → HasSeen inner (all_before ++ last)
-      → HasSeenAll (record n { inner = inner; is_cut = b; tick = new; stamp = line }) (before ++ p ∷ [])
+      → HasSeenAll (record n { inner = inner; last = record { is_cut = b; tick = new }; stamp = line }) (before ++ p ∷
+      [])
   stamped_seen has later inner line seen =
       let s = state_of_pieces 0 before in
-      let next : CutAmender = record n { inner = inner; is_cut = b; tick = new; stamp = line } in
+      let next : CutAmender = record n { inner = inner; last = record { is_cut = b; tick = new }; stamp = line } in
       let upto = before_new has later in
       let after = last_state b refl upto in
       let state : state_after_item s p.item ≡ record s { tick = number_of digits } = ap (state_after_item s) is in
       let sent : all_before ++ last ≡ sent_for (cut_of m) before ++ step_for (cut_of m) before p =
       append_assoc (sent_for (cut_of m) before) (released_before m new (held_for (cut_of m) before)) last
       ∙ ap (λ l. sent_for (cut_of m) before ++ l) (sym stamped_step) in
-      let written : HasWritten next (all_before ++ last) (if nat_lt m.tick new then [] else held_for (cut_of m) before)
+      let written : HasWritten next (all_before ++ last) (if nat_lt m.last.tick new then [] else held_for (cut_of m)
+      before)
       (record s { tick = number_of digits }) = record {
         seen = seen;
         holds = has.holds;
@@ -341,7 +345,7 @@ module _ (m n : CutAmender) (before : List Piece) (p : Piece) (digits : List ℕ
       subst (λ l. HasWritten next l (held_of_step (cut_of m) s (held_for (cut_of m) before) p)
       (state_after_item s p.item)) sent
       (subst (λ l. HasWritten next (all_before ++ last) l (state_after_item s p.item)) (sym stamped_held)
-      (subst (λ u. HasWritten next (all_before ++ last) (if nat_lt m.tick new then [] else held_for
+      (subst (λ u. HasWritten next (all_before ++ last) (if nat_lt m.last.tick new then [] else held_for
       (cut_of m) before) u)
       (sym state) written)) in
       written_more next before p (subst (λ (cs : List CutTicks). HasWritten next
@@ -350,12 +354,13 @@ module _ (m n : CutAmender) (before : List Piece) (p : Piece) (digits : List ℕ
 
 -- ---- changes while none is held
 
-pub none_holds : (m : CutAmender) (before : List Piece) → HasSeenAll m before → m.is_cut ≡ false → m.held.items ≡ []
+pub none_holds : (m : CutAmender) (before : List Piece) → HasSeenAll m before → m.last.is_cut ≡ false → m.held.items ≡
+    []
     → (p : Piece) (is_text : Bool) (code : List ℕ)
     → ArePieces (last_held m.held.items)
     (filter (λ q. not (counts_with (has_kept_variable (state_of_pieces 0 before)) (key_of is_text code) (change_key
     q.item))) (held_for (cut_of m) before)
-    ++ (if m.is_cut && (code_target m.variables code).lasts then p ∷ [] else []))
+    ++ (if m.last.is_cut && (code_target m.variables code).lasts then p ∷ [] else []))
 unfolding last_held
 none_holds m before at left none p is_text code =
     let held = held_for (cut_of m) before in
@@ -364,7 +369,7 @@ none_holds m before at left none p is_text code =
     subst (λ (qs : List Piece). ArePieces (last_held m.held.items)
     (filter (λ q. not (counts_with (has_kept_variable (state_of_pieces 0 before)) (key_of is_text code) (change_key
     q.item))) qs
-    ++ (if m.is_cut && (code_target m.variables code).lasts then p ∷ [] else []))) (sym empty)
+    ++ (if m.last.is_cut && (code_target m.variables code).lasts then p ∷ [] else []))) (sym empty)
     (subst (λ (b : Bool). ArePieces (last_held m.held.items) (if b && (code_target m.variables code).lasts then p ∷ []
     else [])) (sym left)
     (subst (λ (l : List HeldChange). ArePieces (last_held l) []) (sym none) tt))
@@ -400,7 +405,7 @@ plain_seen m before at p plain inner variables seen lasting kept =
       kept = kept;
       is_cut = at.is_cut ∙ sym (ap cut (is.tick s));
       tick = at.tick ∙ sym (ap (new_tick cut) (is.tick s));
-      behind = subst (λ (t : ℕ). t ≤ m.tick) (sym tick) at.behind;
+      behind = subst (λ (t : ℕ). t ≤ m.last.tick) (sym tick) at.behind;
       scopes = scopes;
     })))
 

@@ -1,7 +1,7 @@
 -- Due changes that are written one after another.
 use Rattle.std.proofs.Common.{◌≡◌, ◌<◌, ◌+◌, ℕ, Bool, true, false, List, [], ◌∷◌, ◌++◌, map, drop, length}
-use Rattle.std.proofs.Common.{Option, Some, None, refl, sym, ap, ◌∙◌, append_assoc, if◌then◌else◌, get_or}
-use Rattle.std.specs.Prelude.{decimal, slice_index_or, IfNone, is_some}
+use Rattle.std.proofs.Common.{Option, Some, refl, sym, ap, ◌∙◌, append_assoc, if◌then◌else◌, get_or}
+use Rattle.std.specs.Prelude.{decimal, slice_index_or}
 use Rattle.std.specs.List.{filter, flat_map, join_with_byte}
 use Rattle.std.proofs.lemmas.Bool.{lt-ltb}
 use Rattle.std.proofs.lemmas.Grind.{flat_map-append}
@@ -147,8 +147,3 @@ item_is codes c d within is =
     let here : code_at (map code_contents codes) (due_transition d) ≡ code_contents c =
     get_or-map code_contents codes d.index c no_code within ∙ ap code_contents (sym is) in
     ap (λ (x : AmendedCode). value_item x.code (new_value x d.tick)) (sym here)
-
--- none of them is before a tick
-pub if_none : (o : Option DueChange) {P : Type 0} → IfNone o P → is_some o ≡ false → P
-if_none None none is = none
-if_none (Some d) none is = absurd (cc)

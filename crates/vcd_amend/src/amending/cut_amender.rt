@@ -1,12 +1,12 @@
 //! What cuts, and then an amendment, do to a file while it is copied.
 
 ghost use Rattle.std.specs.Prelude.{◌≡◌, ◌≤◌, ◌&&◌, ◌∷◌, ◌++◌, [], ℕ, List, All, OnOk, OnErr, IfOk};
-ghost use Rattle.std.specs.Prelude.{true, nat_lt, Bool, ◌==◌};
+ghost use Rattle.std.specs.Prelude.{◌<◌, ◌^◌, true, nat_lt, Bool, ◌==◌};
 ghost use Rattle.std.specs.Prelude.{decimal, not, if◌then◌else◌, bytes_eq, codes, ◌||◌, false};
 ghost use Rattle.std.specs.List.{filter};
 ghost use Rattle.vcd_core.specs.Decimal.{number_of, is_number};
 ghost use Rattle.vcd_core.specs.Word.{is_skipped_kind};
-ghost use Rattle.vcd_text.specs.Items.{stamp};
+ghost use Rattle.vcd_text.specs.Items as items;
 ghost use Rattle.vcd_text.specs.EmittedText.{Emits, EmitsMore};
 ghost use Rattle.vcd_copy.specs.declared.copying.amender.InPlace.TheVariants as places;
 ghost use Rattle.vcd_copy.specs.Pieces.{Piece, state_of_pieces};
@@ -20,21 +20,22 @@ ghost use Rattle.vcd_copy.specs.Pieces.{stamp_line};
 ghost use Rattle.vcd_amend.specs.inside.amending.FileAmender.{HasSeen};
 ghost use Rattle.vcd_amend.specs.declared.amending.held_changes.HeldChange.{HeldChange as Change};
 ghost use Rattle.vcd_amend.specs.inside.amending.HeldChanges as spec;
-ghost use Rattle.vcd_amend.specs.inside.amending.HeldChanges.{IsChangePiece, ArePieces, released};
+ghost use Rattle.vcd_amend.specs.inside.amending.HeldChanges.{IsChangePiece, IsGivenChange};
+ghost use Rattle.vcd_amend.specs.inside.amending.HeldChanges.{ArePieces, released};
 ghost use Rattle.vcd_amend.specs.inside.amending.CutAmender.{HasSeenAll, HasWritten, rules_of};
 ghost use Rattle.vcd_amend.specs.inside.amending.CutAmender.{cut_rules_of, held_for};
 ghost use Rattle.vcd_amend.specs.inside.amending.CutAmender.{sent_for, step_for, cut_of};
 ghost use Rattle.vcd_amend.specs.inside.amending.CutAmender.{released_before};
 
 use super::file_amender::{FileAmender, write_ended, write_if};
-use super::held_changes::{HeldChange, held_change, last_held};
+use super::held_changes::{ChangeBytes, HeldChange, Holding, held_change, last_held};
 use crate::amendment::Amendment;
 use crate::cut_ticks::{CutTicks, CutWalk, RetimedTick};
 use itoa::Buffer;
 use std::alloc::Global;
 use std::mem::replace;
-use vcd_copy::{AmendableItem, Amender, InPlace, VariableWords};
-use vcd_core::{NoMemory, ScopeName, Sink, WIDTH_LIMIT};
+use vcd_copy::{AmendableItem, Amender, EndedItem, InPlace, StampBytes, VariableWords};
+use vcd_core::{NoMemory, Sink, WIDTH_LIMIT};
 use vcd_text::{CodeTargets, Output};
 
 /// How many changes may be held before those that later ones replace are dropped.
@@ -70,10 +71,8 @@ pub struct CutAmender<'a> {
     pub held: Vec<HeldChange>,
     /// How many of them there may be before some are dropped.
     pub room: usize,
-    /// Whether the tick of the last stamp is cut out.
-    pub is_cut: bool,
-    /// How many ticks before it are left.
-    pub tick: u64,
+    /// The tick of the last stamp after the cuts.
+    pub last: RetimedTick,
     /// Room for the words of a stamp.
     pub stamp: Vec<u8>,
 }
@@ -92,7 +91,7 @@ impl<'a> CutAmender<'a> {
     {
         let inner = FileAmender::new(alloc, amendment)?;
         let mut walk = CutWalk::new(cuts);
-        let first = walk.retimed(0);
+        let last = walk.retimed(0);
         Ok(CutAmender {
             alloc,
             inner,
@@ -100,8 +99,7 @@ impl<'a> CutAmender<'a> {
             variables: CodeTargets::new(alloc, NO_VARIABLES),
             held: Vec::new(alloc),
             room: FIRST_ROOM,
-            is_cut: first.is_cut,
-            tick: first.tick,
+            last,
             stamp: Vec::new(alloc),
         })
     }
@@ -116,19 +114,19 @@ impl<'a> CutAmender<'a> {
     ) -> Result<(), NoMemory>
         requires { (before : List Piece) × HasSeenAll self.old before }
         ensures written { OnOk result ((before : List Piece) (p : Piece) (digits : List ℕ) →
-            HasSeenAll self.old before → p.item ≡ stamp digits → number_of digits ≡ tick →
+            HasSeenAll self.old before → p.item ≡ items.stamp digits → number_of digits ≡ tick →
             p.space ≡ space.now → p.body ≡ body.now → (state_of_pieces 0 before).tick ≤ tick →
             Emits W.Sink output.old output.new (copied_pieces (rules_of self.old.inner)
             (sent_for (cut_of self.old) before) (step_for (cut_of self.old) before p))) }
         ensures at { OnOk result ((before : List Piece) (p : Piece) (digits : List ℕ) →
-            HasSeenAll self.old before → p.item ≡ stamp digits → number_of digits ≡ tick →
+            HasSeenAll self.old before → p.item ≡ items.stamp digits → number_of digits ≡ tick →
             p.space ≡ space.now → p.body ≡ body.now → (state_of_pieces 0 before).tick ≤ tick →
             HasSeenAll self.new (before ++ p ∷ [])) }
         ensures same { OnOk result (cut_rules_of self.new ≡ cut_rules_of self.old) }
         ensures more { OnErr result (EmitsMore W.Sink output.old output.new) }
     {
         let retimed = self.walk.retimed(tick);
-        self.take_retimed(output, retimed, tick, space, body)
+        self.take_retimed(output, retimed, StampBytes { tick, space, body })
     }
 
     /// The same of a stamp with this new tick: before one past the last tick that is left the held
@@ -137,28 +135,28 @@ impl<'a> CutAmender<'a> {
         &mut self,
         output: &mut Output<W>,
         retimed: RetimedTick,
-        tick: u64,
-        space: &[u8],
-        body: &[u8],
+        stamp: StampBytes,
     ) -> Result<(), NoMemory>
         requires seen { (before : List Piece) × HasSeenAll self.old before }
-        requires cut { retimed.is_cut ≡ cut_of self.old tick }
-        requires tick { retimed.tick ≡ new_tick (cut_of self.old) tick }
+        requires cut { retimed.is_cut ≡ cut_of self.old stamp.tick }
+        requires tick { retimed.tick ≡ new_tick (cut_of self.old) stamp.tick }
+        requires fits { stamp.tick < 2 ^ 64 }
         ensures written { OnOk result ((before : List Piece) (p : Piece) (digits : List ℕ) →
-            HasSeenAll self.old before → p.item ≡ stamp digits → number_of digits ≡ tick →
-            p.space ≡ space.now → p.body ≡ body.now → (state_of_pieces 0 before).tick ≤ tick →
+            HasSeenAll self.old before → p.item ≡ items.stamp digits →
+            number_of digits ≡ stamp.entry.tick → p.space ≡ stamp.entry.space.now →
+            p.body ≡ stamp.entry.body.now → (state_of_pieces 0 before).tick ≤ stamp.entry.tick →
             Emits W.Sink output.old output.new (copied_pieces (rules_of self.old.inner)
             (sent_for (cut_of self.old) before) (step_for (cut_of self.old) before p))) }
         ensures at { OnOk result ((before : List Piece) (p : Piece) (digits : List ℕ) →
-            HasSeenAll self.old before → p.item ≡ stamp digits → number_of digits ≡ tick →
-            p.space ≡ space.now → p.body ≡ body.now → (state_of_pieces 0 before).tick ≤ tick →
+            HasSeenAll self.old before → p.item ≡ items.stamp digits →
+            number_of digits ≡ stamp.entry.tick → p.space ≡ stamp.entry.space.now →
+            p.body ≡ stamp.entry.body.now → (state_of_pieces 0 before).tick ≤ stamp.entry.tick →
             HasSeenAll self.new (before ++ p ∷ [])) }
         ensures same { OnOk result (cut_rules_of self.new ≡ cut_rules_of self.old) }
         ensures more { OnErr result (EmitsMore W.Sink output.old output.new) }
     {
         self.release_before(output, retimed.tick)?;
-        self.is_cut = retimed.is_cut;
-        self.tick = retimed.tick;
+        self.last = retimed;
         if retimed.is_cut {
             return Ok(());
         }
@@ -167,9 +165,7 @@ impl<'a> CutAmender<'a> {
             output,
             &mut self.stamp,
             retimed.tick,
-            tick,
-            space,
-            body,
+            stamp,
         )?;
         Ok(())
     }
@@ -184,26 +180,18 @@ impl<'a> CutAmender<'a> {
         ensures at { OnOk result ((before : List Piece) → HasSeenAll self.old before →
             HasWritten self.new (sent_for (cut_of self.old) before
             ++ released_before self.old tick (held_for (cut_of self.old) before))
-            (if nat_lt self.old.tick tick then [] else held_for (cut_of self.old) before)
+            (if nat_lt self.old.last.tick tick then [] else held_for (cut_of self.old) before)
             (state_of_pieces 0 before)) }
         ensures amendment { OnOk result
             (self.new.inner.amendment.now ≡ self.old.inner.amendment.now) }
         ensures cuts { OnOk result (self.new.walk ≡ self.old.walk) }
         ensures more { OnErr result (EmitsMore W.Sink output.old output.new) }
     {
-        if self.tick >= tick {
+        if self.last.tick >= tick {
             return Ok(());
         }
         let held = replace(&mut self.held, Vec::new(self.alloc));
-        release(
-            self.alloc,
-            &mut self.inner,
-            output,
-            held,
-            self.is_cut,
-            self.tick,
-            &mut self.stamp,
-        )?;
+        release(&mut self.inner, output, held, self.last, &mut self.stamp)?;
         Ok(())
     }
 
@@ -211,38 +199,29 @@ impl<'a> CutAmender<'a> {
     fn take_change<W: Sink>(
         &mut self,
         output: &mut Output<W>,
-        is_text: bool,
-        code: &[u8],
-        space: &[u8],
-        body: &[u8],
+        change: ChangeBytes,
     ) -> Result<(), NoMemory>
         requires { (before : List Piece) × HasSeenAll self.old before }
         ensures written { OnOk result ((before : List Piece) (p : Piece) →
-            HasSeenAll self.old before → IsChangePiece p is_text code.now space.now body.now →
+            HasSeenAll self.old before → IsGivenChange p change.entry →
             Emits W.Sink output.old output.new (copied_pieces (rules_of self.old.inner)
             (sent_for (cut_of self.old) before) (step_for (cut_of self.old) before p))) }
         ensures at { OnOk result ((before : List Piece) (p : Piece) →
-            HasSeenAll self.old before → IsChangePiece p is_text code.now space.now body.now →
+            HasSeenAll self.old before → IsGivenChange p change.entry →
             HasSeenAll self.new (before ++ p ∷ [])) }
         ensures same { OnOk result (cut_rules_of self.new ≡ cut_rules_of self.old) }
         ensures more { OnErr result (EmitsMore W.Sink output.old output.new) }
     {
-        let variables = self.variables.get(code);
-        hold(
-            self.alloc,
-            &mut self.held,
-            &mut self.room,
-            is_held(self.is_cut, variables),
-            variables.is_kept,
-            is_text,
-            code,
-            space,
-            body,
-        )?;
-        if self.is_cut {
+        let variables = self.variables.get(change.code);
+        let holding = Holding {
+            is_held: is_held(self.last.is_cut, variables),
+            is_kept: variables.is_kept,
+        };
+        hold(self.alloc, &mut self.held, &mut self.room, change, holding)?;
+        if self.last.is_cut {
             return Ok(());
         }
-        put_change(&mut self.inner, output, is_text, code, space, body);
+        put_change(&mut self.inner, output, change);
         Ok(())
     }
 }
@@ -259,24 +238,21 @@ fn hold(
     alloc: Global,
     held: &mut Vec<HeldChange>,
     room: &mut usize,
-    is_held: bool,
-    is_kept: bool,
-    is_text: bool,
-    code: &[u8],
-    space: &[u8],
-    body: &[u8],
+    change: ChangeBytes,
+    holding: Holding,
 ) -> Result<(), NoMemory>
     ensures { OnOk result ((kept : List ℕ → Bool) (ps : List Piece) (p : Piece) →
-        kept code.now ≡ is_kept → ArePieces (spec.last_held held.old.items) ps →
-        IsChangePiece p is_text code.now space.now body.now →
+        kept change.entry.code.now ≡ holding.is_kept →
+        ArePieces (spec.last_held held.old.items) ps → IsGivenChange p change.entry →
         ArePieces (spec.last_held held.new.items)
-        (filter (λ q. not (counts_with kept (spec.key_of is_text code.now) (change_key q.item))) ps
-        ++ (if is_held then p ∷ [] else []))) }
+        (filter (λ q. not (counts_with kept
+        (spec.key_of change.entry.is_text change.entry.code.now) (change_key q.item))) ps
+        ++ (if holding.is_held then p ∷ [] else []))) }
 {
-    if is_idle(is_held, held) {
+    if is_idle(holding.is_held, held) {
         return Ok(());
     }
-    let change = held_change(alloc, is_text, is_held, is_kept, code, space, body)?;
+    let change = held_change(alloc, change, holding)?;
     push_held(alloc, held, room, change)?;
     Ok(())
 }
@@ -319,31 +295,29 @@ fn make_room(alloc: Global, held: &mut Vec<HeldChange>, room: &mut usize) -> Res
 
 /// Writes the held changes, after their stamp if the last one is left out.
 fn release<W: Sink>(
-    alloc: Global,
     inner: &mut FileAmender,
     output: &mut Output<W>,
     changes: Vec<HeldChange>,
-    is_cut: bool,
-    tick: u64,
+    last: RetimedTick,
     stamp: &mut Vec<u8>,
 ) -> Result<(), NoMemory>
     requires { (r ps : List Piece) × HasSeen inner.old r
-        × ArePieces (spec.last_held changes.items) ps × ((state_of_pieces 0 r).tick ≤ tick) }
+        × ArePieces (spec.last_held changes.items) ps × ((state_of_pieces 0 r).tick ≤ last.tick) }
     ensures written { OnOk result ((r ps : List Piece) → HasSeen inner.old r →
-        ArePieces (spec.last_held changes.items) ps → (state_of_pieces 0 r).tick ≤ tick →
+        ArePieces (spec.last_held changes.items) ps → (state_of_pieces 0 r).tick ≤ last.tick →
         Emits W.Sink output.old output.new (copied_pieces (rules_of inner.old) r
-        (released is_cut tick ps))) }
+        (released last.is_cut last.tick ps))) }
     ensures seen { OnOk result ((r ps : List Piece) → HasSeen inner.old r →
-        ArePieces (spec.last_held changes.items) ps → (state_of_pieces 0 r).tick ≤ tick →
-        HasSeen inner.new (r ++ released is_cut tick ps)) }
+        ArePieces (spec.last_held changes.items) ps → (state_of_pieces 0 r).tick ≤ last.tick →
+        HasSeen inner.new (r ++ released last.is_cut last.tick ps)) }
     ensures same { inner.new.amendment.now ≡ inner.old.amendment.now }
     ensures more { OnErr result (EmitsMore W.Sink output.old output.new) }
 {
-    let held = last_held(alloc, changes)?;
+    let held = last_held(inner.alloc, changes)?;
     if held.is_empty() {
         return Ok(());
     }
-    put_held_stamp(inner, output, is_cut, tick, stamp)?;
+    put_held_stamp(inner, output, last.is_cut, last.tick, stamp)?;
     put_changes(inner, output, held.as_slice());
     Ok(())
 }
@@ -389,29 +363,29 @@ fn spell_stamp(text: &mut Vec<u8>, tick: u64) -> Result<(), NoMemory>
 fn put_stamp<W: Sink>(
     inner: &mut FileAmender,
     output: &mut Output<W>,
-    stamp: &mut Vec<u8>,
+    text: &mut Vec<u8>,
     retimed: u64,
-    tick: u64,
-    space: &[u8],
-    body: &[u8],
+    stamp: StampBytes,
 ) -> Result<(), NoMemory>
     requires { (r : List Piece) × HasSeen inner.old r }
     ensures written { OnOk result ((r : List Piece) (p : Piece) → HasSeen inner.old r →
-        spec.IsRetimedStamp p retimed tick space.now body.now →
+        spec.IsRetimedStamp p retimed stamp.entry.tick stamp.entry.space.now
+        stamp.entry.body.now →
         (state_of_pieces 0 r).tick ≤ retimed →
         Emits W.Sink output.old output.new (copied_pieces (rules_of inner.old) r (p ∷ []))) }
     ensures seen { OnOk result ((r : List Piece) (p : Piece) → HasSeen inner.old r →
-        spec.IsRetimedStamp p retimed tick space.now body.now →
+        spec.IsRetimedStamp p retimed stamp.entry.tick stamp.entry.space.now
+        stamp.entry.body.now →
         (state_of_pieces 0 r).tick ≤ retimed → HasSeen inner.new (r ++ p ∷ [])) }
     ensures same { inner.new.amendment.now ≡ inner.old.amendment.now }
     ensures more { OnErr result (EmitsMore W.Sink output.old output.new) }
 {
-    if retimed == tick {
-        inner.take_stamp(output, tick, space, body);
+    if retimed == stamp.tick {
+        inner.take_stamp(output, stamp.tick, stamp.space, stamp.body);
         return Ok(());
     }
-    spell_stamp(stamp, retimed)?;
-    inner.take_stamp(output, retimed, space, stamp.as_slice());
+    spell_stamp(text, retimed)?;
+    inner.take_stamp(output, retimed, stamp.space, text.as_slice());
     Ok(())
 }
 
@@ -425,40 +399,32 @@ fn put_changes<W: Sink>(inner: &mut FileAmender, output: &mut Output<W>, held: &
     ensures same { inner.new.amendment.now ≡ inner.old.amendment.now }
 {
     for change in held {
-        put_change(
-            inner,
-            output,
-            change.is_text,
-            change.code.as_slice(),
-            change.space.as_slice(),
-            change.body.as_slice(),
-        );
+        let bytes = ChangeBytes {
+            is_text: change.is_text,
+            code: change.code.as_slice(),
+            space: change.space.as_slice(),
+            body: change.body.as_slice(),
+        };
+        put_change(inner, output, bytes);
     }
 }
 
 /// Writes what is in the place of a change.
-fn put_change<W: Sink>(
-    inner: &mut FileAmender,
-    output: &mut Output<W>,
-    is_text: bool,
-    code: &[u8],
-    space: &[u8],
-    body: &[u8],
-)
+fn put_change<W: Sink>(inner: &mut FileAmender, output: &mut Output<W>, change: ChangeBytes)
     requires { (r : List Piece) × HasSeen inner.old r }
     ensures written { (r : List Piece) (p : Piece) → HasSeen inner.old r →
-        IsChangePiece p is_text code.now space.now body.now →
+        IsGivenChange p change.entry →
         Emits W.Sink output.old output.new (copied_pieces (rules_of inner.old) r (p ∷ [])) }
     ensures seen { (r : List Piece) (p : Piece) → HasSeen inner.old r →
-        IsChangePiece p is_text code.now space.now body.now → HasSeen inner.new (r ++ p ∷ []) }
+        IsGivenChange p change.entry → HasSeen inner.new (r ++ p ∷ []) }
     ensures same { inner.new.amendment.now ≡ inner.old.amendment.now }
 {
-    if is_text {
-        let is_used = inner.let_real_stand(code);
-        write_if(output, is_used, space, body);
+    if change.is_text {
+        let is_used = inner.let_real_stand(change.code);
+        write_if(output, is_used, change.space, change.body);
         return;
     }
-    inner.take_value(output, code, space, body);
+    inner.take_value(output, change.code, change.space, change.body);
 }
 
 /// What is in the place of a change.
@@ -558,7 +524,7 @@ impl<'a, W: Sink> Amender<W> for CutAmender<'a> {
     ghost is_done = { λ _. false };
 
     fn settle(&mut self, item: AmendableItem, code: &[u8]) -> InPlace {
-        if !is_idle(self.is_cut, &self.held) {
+        if !is_idle(self.last.is_cut, &self.held) {
             return InPlace::Other;
         }
         match item {
@@ -568,27 +534,41 @@ impl<'a, W: Sink> Amender<W> for CutAmender<'a> {
         }
     }
 
-    fn take(
-        &mut self,
-        output: &mut Output<W>,
-        item: AmendableItem,
-        code: &[u8],
-        _scopes: &[ScopeName],
-        space: &[u8],
-        body: &[u8],
-    ) -> Result<(), NoMemory> {
-        match item {
+    fn take(&mut self, output: &mut Output<W>, ended: &EndedItem) -> Result<(), NoMemory> {
+        match ended.item {
             AmendableItem::Variable => {
-                note_at_code(&mut self.variables, self.alloc, body)?;
-                self.inner.take_variable(output, space, body)
+                note_at_code(&mut self.variables, self.alloc, ended.body)?;
+                self.inner.take_variable(output, ended.space, ended.body)
             }
             AmendableItem::EndDefinitions { open_scopes, .. } => {
-                write_ended(output, self.inner.amendment, open_scopes, space, body);
+                write_ended(
+                    output,
+                    self.inner.amendment,
+                    open_scopes,
+                    ended.space,
+                    ended.body,
+                );
                 Ok(())
             }
-            AmendableItem::Stamp { tick } => self.take_stamp(output, tick, space, body),
-            AmendableItem::Value => self.take_change(output, false, code, space, body),
-            AmendableItem::RealOrString => self.take_change(output, true, code, space, body),
+            AmendableItem::Stamp { tick } => self.take_stamp(output, tick, ended.space, ended.body),
+            AmendableItem::Value => {
+                let change = ChangeBytes {
+                    is_text: false,
+                    code: ended.code,
+                    space: ended.space,
+                    body: ended.body,
+                };
+                self.take_change(output, change)
+            }
+            AmendableItem::RealOrString => {
+                let change = ChangeBytes {
+                    is_text: true,
+                    code: ended.code,
+                    space: ended.space,
+                    body: ended.body,
+                };
+                self.take_change(output, change)
+            }
         }
     }
 
@@ -602,15 +582,7 @@ impl<'a, W: Sink> Amender<W> for CutAmender<'a> {
 
     fn finish(&mut self, output: &mut Output<W>, space: &[u8]) -> Result<(), NoMemory> {
         let held = replace(&mut self.held, Vec::new(self.alloc));
-        release(
-            self.alloc,
-            &mut self.inner,
-            output,
-            held,
-            self.is_cut,
-            self.tick,
-            &mut self.stamp,
-        )?;
+        release(&mut self.inner, output, held, self.last, &mut self.stamp)?;
         self.inner.finish(output, space)
     }
 }

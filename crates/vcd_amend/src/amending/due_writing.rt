@@ -20,31 +20,41 @@ use crate::amendment::AmendedCode;
 use vcd_core::Sink;
 use vcd_text::{Output, write_byte, write_change, write_stamp};
 
-/// Writes the lines of the due changes before `tick`, from the one at `next` on, each tick after
-/// its stamp, unless it is `last`. Returns the index of the first that is not before it.
+/// The due changes of amended codes, from one on.
+#[derive(Clone, Copy)]
+pub struct DueToCome<'a> {
+    pub codes: &'a [AmendedCode],
+    /// What the file has had of each code.
+    pub progress: &'a [CodeProgress],
+    /// All due changes.
+    pub changes: &'a [DueChange],
+    /// The index of the first of these that is to come.
+    pub next: usize,
+}
+
+/// Writes the lines of the due changes before `tick`, each tick after its stamp, unless it is
+/// `last`. Returns the index of the first that is not before it.
 pub fn write_due_before<W: Sink>(
     output: &mut Output<W>,
-    codes: &[AmendedCode],
-    progress: &[CodeProgress],
+    due: &DueToCome,
     counts: &mut [ChangeCounts],
-    due: &[DueChange],
-    next: usize,
     last: Option<u64>,
     tick: u64,
 ) -> usize
-    requires within { All (λ d. d.index < length codes.now) due.now }
-    requires progress { length progress.now ≡ length codes.now }
-    requires counts { length counts.old ≡ length codes.now }
+    requires within { All (λ d. d.index < length due.now.codes.now) due.now.changes.now }
+    requires progress { length due.now.progress.now ≡ length due.now.codes.now }
+    requires counts { length counts.old ≡ length due.now.codes.now }
     ensures written { Emits W.Sink output.old output.new (flat_map item_line
-        (stamped_items (map code_contents codes.now) last (filter (is_open_by progress.now)
-        (before_tick tick (map due_transition (drop next due.now)))))) }
-    ensures next { map due_transition (drop result due.now)
-        ≡ from_tick tick (map due_transition (drop next due.now)) }
+        (stamped_items (map code_contents due.now.codes.now) last
+        (filter (is_open_by due.now.progress.now)
+        (before_tick tick (map due_transition (drop due.now.next due.now.changes.now)))))) }
+    ensures next { map due_transition (drop result due.now.changes.now)
+        ≡ from_tick tick (map due_transition (drop due.now.next due.now.changes.now)) }
 {
-    let mut index = next;
+    let mut index = due.next;
     let mut stamped = last;
-    while let Some(change) = due_before(due, index, tick) {
-        stamped = write_stamped(output, codes, progress, counts, change, stamped);
+    while let Some(change) = due_before(due.changes, index, tick) {
+        stamped = write_stamped(output, due, counts, change, stamped);
         index += 1;
     }
     index
@@ -54,28 +64,27 @@ pub fn write_due_before<W: Sink>(
 /// the last one, and the change. Returns the last stamp then.
 fn write_stamped<W: Sink>(
     output: &mut Output<W>,
-    codes: &[AmendedCode],
-    progress: &[CodeProgress],
+    due: &DueToCome,
     counts: &mut [ChangeCounts],
     change: DueChange,
     last: Option<u64>,
 ) -> Option<u64>
-    requires within { change.index < length codes.now }
-    requires progress { length progress.now ≡ length codes.now }
-    requires counts { length counts.old ≡ length codes.now }
+    requires within { change.index < length due.now.codes.now }
+    requires progress { length due.now.progress.now ≡ length due.now.codes.now }
+    requires counts { length counts.old ≡ length due.now.codes.now }
     ensures written { Emits W.Sink output.old output.new (flat_map item_line
-        (if is_open_by progress.now (due_transition change) then
+        (if is_open_by due.now.progress.now (due_transition change) then
         (if is_last last change.tick then [] else stamp (decimal change.tick) ∷ [])
-        ++ due_item (map code_contents codes.now) (due_transition change) ∷ [] else [])) }
-    ensures last { result ≡ (if is_open_by progress.now (due_transition change)
+        ++ due_item (map code_contents due.now.codes.now) (due_transition change) ∷ [] else [])) }
+    ensures last { result ≡ (if is_open_by due.now.progress.now (due_transition change)
         then Some change.tick else last) }
 {
-    if !is_open(progress, change) {
+    if !is_open(due.progress, change) {
         return last;
     }
     write_stamp_after(output, last, change.tick);
     let index = change.index;
-    write_due(output, &codes[index], &mut counts[index], change.tick);
+    write_due(output, &due.codes[index], &mut counts[index], change.tick);
     write_byte(output, b'\n');
     Some(change.tick)
 }
@@ -122,27 +131,25 @@ fn write_stamp_after<W: Sink>(output: &mut Output<W>, last: Option<u64>, tick: u
     }
 }
 
-/// Writes the due changes at `tick`, from the one at `next` on, each after a line feed.
+/// Writes the due changes up to `tick`, each after a line feed.
 pub fn write_due_at<W: Sink>(
     output: &mut Output<W>,
-    codes: &[AmendedCode],
-    progress: &[CodeProgress],
+    due: &DueToCome,
     counts: &mut [ChangeCounts],
-    due: &[DueChange],
-    next: usize,
     tick: u64,
 )
-    requires within { All (λ d. d.index < length codes.now) due.now }
-    requires progress { length progress.now ≡ length codes.now }
-    requires counts { length counts.old ≡ length codes.now }
+    requires within { All (λ d. d.index < length due.now.codes.now) due.now.changes.now }
+    requires progress { length due.now.progress.now ≡ length due.now.codes.now }
+    requires counts { length counts.old ≡ length due.now.codes.now }
     ensures { Emits W.Sink output.old output.new (flat_map
         (λ i. 10 ∷ join_with_byte 32 (spelling i))
-        (map (due_item (map code_contents codes.now)) (filter (is_open_by progress.now)
-        (before_tick (tick + 1) (map due_transition (drop next due.now)))))) }
+        (map (due_item (map code_contents due.now.codes.now))
+        (filter (is_open_by due.now.progress.now)
+        (before_tick (tick + 1) (map due_transition (drop due.now.next due.now.changes.now)))))) }
 {
-    let mut index = next;
-    while let Some(change) = due_through(due, index, tick) {
-        write_after_feed(output, codes, progress, counts, change);
+    let mut index = due.next;
+    while let Some(change) = due_through(due.changes, index, tick) {
+        write_after_feed(output, due, counts, change);
         index += 1;
     }
 }
@@ -150,24 +157,24 @@ pub fn write_due_at<W: Sink>(
 /// Writes a line feed and a due change, unless the file has had a change there.
 fn write_after_feed<W: Sink>(
     output: &mut Output<W>,
-    codes: &[AmendedCode],
-    progress: &[CodeProgress],
+    due: &DueToCome,
     counts: &mut [ChangeCounts],
     change: DueChange,
 )
-    requires within { change.index < length codes.now }
-    requires progress { length progress.now ≡ length codes.now }
-    requires counts { length counts.old ≡ length codes.now }
+    requires within { change.index < length due.now.codes.now }
+    requires progress { length due.now.progress.now ≡ length due.now.codes.now }
+    requires counts { length counts.old ≡ length due.now.codes.now }
     ensures { Emits W.Sink output.old output.new
-        (if is_open_by progress.now (due_transition change) then 10 ∷ join_with_byte 32
-        (spelling (due_item (map code_contents codes.now) (due_transition change))) else []) }
+        (if is_open_by due.now.progress.now (due_transition change) then 10 ∷ join_with_byte 32
+        (spelling (due_item (map code_contents due.now.codes.now) (due_transition change)))
+        else []) }
 {
-    if !is_open(progress, change) {
+    if !is_open(due.progress, change) {
         return;
     }
     write_byte(output, b'\n');
     let index = change.index;
-    write_due(output, &codes[index], &mut counts[index], change.tick);
+    write_due(output, &due.codes[index], &mut counts[index], change.tick);
 }
 
 /// Writes the change of an amended code to its new value at `tick`.

@@ -30,16 +30,16 @@ ghost use Rattle.vcd_text.specs.inside.reading.CodeTargets.{code_target};
 use super::code_progress::{CodeProgress, NO_PROGRESS, note_variable};
 use super::code_uses::{CodeUse, first_uses, use_code};
 use super::due_changes::{DueChange, due_changes};
-use super::due_writing::{next_if_none_open, write_due_at, write_due_before};
+use super::due_writing::{DueToCome, next_if_none_open, write_due_at, write_due_before};
 use super::moments::ChangeCounts;
 use super::value_changes::{
-    is_changed_in, moment_in, note_settled, place_at, take_amended, write_both,
+    AmendedChange, is_changed_in, moment_in, note_settled, place_at, take_amended, write_both,
 };
 use super::variable_writing::{write_added, write_changed};
 use crate::amendment::{AddedVariable, Amendment, Fate};
 use std::alloc::Global;
-use vcd_copy::{AmendableItem, Amender, InPlace, VariableWords};
-use vcd_core::{NoMemory, ScopeName, Sink, Word};
+use vcd_copy::{AmendableItem, Amender, EndedItem, InPlace, VariableWords};
+use vcd_core::{NoMemory, Sink, Word};
 use vcd_text::{CodeTargets, Output, write_bytes, write_upscopes};
 
 /// What an amendment does to a file, and how far the file is.
@@ -247,16 +247,14 @@ impl<'a> FileAmender<'a> {
         ensures same { self.new.amendment.now ≡ self.old.amendment.now }
     {
         write_bytes(output, space);
-        self.next = write_due_before(
-            output,
-            self.amendment.codes.as_slice(),
-            self.progress.as_slice(),
-            self.counts.as_mut_slice(),
-            self.due.as_slice(),
-            self.next,
-            last_stamp(self.none_yet, self.tick),
-            tick,
-        );
+        let due = DueToCome {
+            codes: self.amendment.codes.as_slice(),
+            progress: self.progress.as_slice(),
+            changes: self.due.as_slice(),
+            next: self.next,
+        };
+        let last = last_stamp(self.none_yet, self.tick);
+        self.next = write_due_before(output, &due, self.counts.as_mut_slice(), last, tick);
         write_bytes(output, body);
         self.tick = tick;
         self.none_yet = false;
@@ -287,17 +285,14 @@ impl<'a> FileAmender<'a> {
                 let codes = self.amendment.codes.as_slice();
                 let counts = self.counts.as_mut_slice();
                 let progress = self.progress.as_mut_slice();
-                let is_written = take_amended(
-                    output,
-                    codes,
-                    counts,
-                    progress,
+                let change = AmendedChange {
                     index,
-                    found.is_used,
-                    self.tick,
+                    is_used: found.is_used,
+                    tick: self.tick,
                     space,
                     body,
-                );
+                };
+                let is_written = take_amended(output, codes, counts, progress, &change);
                 self.none_yet = still_none(self.none_yet, is_written);
             }
             None => {
@@ -449,32 +444,24 @@ impl<'a, W: Sink> Amender<W> for FileAmender<'a> {
         }
     }
 
-    fn take(
-        &mut self,
-        output: &mut Output<W>,
-        item: AmendableItem,
-        code: &[u8],
-        _scopes: &[ScopeName],
-        space: &[u8],
-        body: &[u8],
-    ) -> Result<(), NoMemory> {
-        match item {
-            AmendableItem::Variable => self.take_variable(output, space, body),
+    fn take(&mut self, output: &mut Output<W>, ended: &EndedItem) -> Result<(), NoMemory> {
+        match ended.item {
+            AmendableItem::Variable => self.take_variable(output, ended.space, ended.body),
             AmendableItem::EndDefinitions { open_scopes, .. } => {
-                write_ended(output, self.amendment, open_scopes, space, body);
+                write_ended(output, self.amendment, open_scopes, ended.space, ended.body);
                 Ok(())
             }
             AmendableItem::Stamp { tick } => {
-                self.take_stamp(output, tick, space, body);
+                self.take_stamp(output, tick, ended.space, ended.body);
                 Ok(())
             }
             AmendableItem::Value => {
-                self.take_value(output, code, space, body);
+                self.take_value(output, ended.code, ended.space, ended.body);
                 Ok(())
             }
             AmendableItem::RealOrString => {
-                let is_used = self.let_real_stand(code);
-                write_if(output, is_used, space, body);
+                let is_used = self.let_real_stand(ended.code);
+                write_if(output, is_used, ended.space, ended.body);
                 Ok(())
             }
         }
@@ -489,15 +476,13 @@ impl<'a, W: Sink> Amender<W> for FileAmender<'a> {
     }
 
     fn finish(&mut self, output: &mut Output<W>, space: &[u8]) -> Result<(), NoMemory> {
-        write_due_at(
-            output,
-            self.amendment.codes.as_slice(),
-            self.progress.as_slice(),
-            self.counts.as_mut_slice(),
-            self.due.as_slice(),
-            self.next,
-            self.tick,
-        );
+        let due = DueToCome {
+            codes: self.amendment.codes.as_slice(),
+            progress: self.progress.as_slice(),
+            changes: self.due.as_slice(),
+            next: self.next,
+        };
+        write_due_at(output, &due, self.counts.as_mut_slice(), self.tick);
         write_bytes(output, space);
         Ok(())
     }

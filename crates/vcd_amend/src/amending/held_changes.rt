@@ -23,32 +23,45 @@ pub struct HeldChange {
     pub body: Word,
 }
 
+/// A change with its bytes in the file.
+#[derive(Clone, Copy)]
+pub struct ChangeBytes<'a> {
+    /// Whether it is to a real number or a string.
+    pub is_text: bool,
+    pub code: &'a [u8],
+    pub space: &'a [u8],
+    pub body: &'a [u8],
+}
+
+/// What becomes of a change while changes are held, as a [`HeldChange`] says it.
+#[derive(Clone, Copy)]
+pub struct Holding {
+    pub is_held: bool,
+    pub is_kept: bool,
+}
+
 /// A change to hold.
 pub fn held_change(
     alloc: Global,
-    is_text: bool,
-    is_held: bool,
-    is_kept: bool,
-    code: &[u8],
-    space: &[u8],
-    body: &[u8],
+    change: ChangeBytes,
+    holding: Holding,
 ) -> Result<HeldChange, NoMemory>
-    ensures { IfOk result (λ change. change ≡ record {
-      is_text = is_text;
-      is_held = is_held;
-      is_kept = is_kept;
-      code = code.now;
-      space = space.now;
-      body = body.now;
+    ensures { IfOk result (λ held. held ≡ record {
+      is_text = change.entry.is_text;
+      is_held = holding.is_held;
+      is_kept = holding.is_kept;
+      code = change.entry.code.now;
+      space = change.entry.space.now;
+      body = change.entry.body.now;
     }) }
 {
     Ok(HeldChange {
-        is_text,
-        is_held,
-        is_kept,
-        code: copy_word(alloc, code)?,
-        space: copy_word(alloc, space)?,
-        body: copy_word(alloc, body)?,
+        is_text: change.is_text,
+        is_held: holding.is_held,
+        is_kept: holding.is_kept,
+        code: copy_word(alloc, change.code)?,
+        space: copy_word(alloc, change.space)?,
+        body: copy_word(alloc, change.body)?,
     })
 }
 

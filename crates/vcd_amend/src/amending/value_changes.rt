@@ -80,75 +80,74 @@ pub fn note_settled(
     note_change(progress, index, tick);
 }
 
-/// Writes what is in the place of a change at `tick` of the amended code at `index`. Returns
-/// whether it wrote a change.
+/// A change at `tick` of the amended code at `index`, with its bytes in the file.
+#[derive(Clone, Copy)]
+pub struct AmendedChange<'a> {
+    pub index: usize,
+    /// Whether the amended file uses the code.
+    pub is_used: bool,
+    pub tick: u64,
+    pub space: &'a [u8],
+    pub body: &'a [u8],
+}
+
+/// Writes what is in the place of a change. Returns whether it wrote a change.
 pub fn take_amended<W: Sink>(
     output: &mut Output<W>,
     codes: &[AmendedCode],
     counts: &mut [ChangeCounts],
     progress: &mut [CodeProgress],
-    index: usize,
-    is_used: bool,
-    tick: u64,
-    space: &[u8],
-    body: &[u8],
+    change: &AmendedChange,
 ) -> bool
-    requires within { index < length codes.now }
+    requires within { change.now.index < length codes.now }
     requires counts { length counts.old ≡ length codes.now }
     requires progress { length progress.old ≡ length codes.now }
-    ensures written { Emits W.Sink output.old output.new (value_text is_used
-        (slice_index_or (map code_contents codes.now) index no_code)
-        (slice_index_or progress.old index no_progress) tick space.now body.now) }
-    ensures told { result ≡ is_written is_used
-        (slice_index_or (map code_contents codes.now) index no_code)
-        (slice_index_or progress.old index no_progress) tick }
+    ensures written { Emits W.Sink output.old output.new (value_text change.now.is_used
+        (slice_index_or (map code_contents codes.now) change.now.index no_code)
+        (slice_index_or progress.old change.now.index no_progress) change.now.tick
+        change.now.space.now change.now.body.now) }
+    ensures told { result ≡ is_written change.now.is_used
+        (slice_index_or (map code_contents codes.now) change.now.index no_code)
+        (slice_index_or progress.old change.now.index no_progress) change.now.tick }
     ensures noted { (k : ℕ) → k < length progress.old →
-        slice_index_or progress.new k no_progress ≡ (if k == index then noted_change tick
+        slice_index_or progress.new k no_progress
+        ≡ (if k == change.now.index then noted_change change.now.tick
         (slice_index_or progress.old k no_progress)
         else slice_index_or progress.old k no_progress) }
 {
+    let index = change.index;
     let code = &codes[index];
-    let moment = moment_at(code, counts[index], tick);
-    let is_due = moment.is_needed && !progress[index].is_changed_at(tick);
+    let moment = moment_at(code, counts[index], change.tick);
+    let is_due = moment.is_needed && !progress[index].is_changed_at(change.tick);
     counts[index] = moment.counts;
-    note_change(progress, index, tick);
-    if !is_used {
+    note_change(progress, index, change.tick);
+    if !change.is_used {
         return false;
     }
-    write_in_place(
-        output,
-        code,
-        &mut counts[index],
-        moment.stands,
-        is_due,
-        tick,
-        space,
-        body,
-    )
+    write_in_place(output, code, moment, is_due, change)
 }
 
-/// Writes a change, if it stands, or the one that is due. Returns whether it wrote one.
+/// Writes a change, if it stands at this moment, or the one that is due. Returns whether it wrote
+/// one.
 fn write_in_place<W: Sink>(
     output: &mut Output<W>,
     code: &AmendedCode,
-    near: &mut ChangeCounts,
-    stands: bool,
+    moment: Moment,
     is_due: bool,
-    tick: u64,
-    space: &[u8],
-    body: &[u8],
+    change: &AmendedChange,
 ) -> bool
-    ensures written { Emits W.Sink output.old output.new (text_in_place stands is_due
-        (code_contents code.now) tick space.now body.now) }
-    ensures told { result ≡ (stands || is_due) }
+    ensures written { Emits W.Sink output.old output.new (text_in_place moment.stands is_due
+        (code_contents code.now) change.now.tick change.now.space.now change.now.body.now) }
+    ensures told { result ≡ (moment.stands || is_due) }
 {
-    if stands {
-        write_both(output, space, body);
+    if moment.stands {
+        write_both(output, change.space, change.body);
         return true;
     }
     if is_due {
-        write_bytes(output, space);
-        write_due(output, code, near, tick);
+        let mut near = moment.counts;
+        write_bytes(output, change.space);
+        write_due(output, code, &mut near, change.tick);
     }
     is_due
 }

@@ -73,12 +73,23 @@ fn code_changed(
     ensures count { OnOk result (length codes.new.items
         ≡ length codes.old.items + length changed.now) }
 {
-    let mut taken = held;
-    let mut position = 0;
+    let mut given = GivenCodes {
+        taken: held,
+        position: 0,
+    };
     for wave in changed {
-        position = code_wave(codes, alloc, known, &mut taken, position, wave)?;
+        code_wave(codes, alloc, known, &mut given, wave)?;
     }
-    Ok(position)
+    Ok(given.position)
+}
+
+/// The codes that are given so far.
+#[derive(Drop)]
+struct GivenCodes {
+    /// They, and those that are held.
+    taken: CodeSet,
+    /// The position from which later fresh codes come.
+    position: usize,
 }
 
 /// Appends the amended code of a wave: its own code, unless that is taken, or else a fresh one.
@@ -86,25 +97,25 @@ fn code_wave(
     codes: &mut Vec<AmendedCode>,
     alloc: Global,
     known: &CodeSet,
-    taken: &mut CodeSet,
-    position: usize,
+    given: &mut GivenCodes,
     wave: &ChangedWave,
-) -> Result<usize, NoMemory>
-    ensures codes { IfOk result (λ next. (s : ParseState) (before : List (List ℕ))
-        → KnowsCodes known.now s → HasCodes taken.old before
-        → (after : List (List ℕ)) × HasCodes taken.new after
-        × GetCodes s (map code_contents codes.old.items) before position
+) -> Result<(), NoMemory>
+    ensures codes { OnOk result ((s : ParseState) (before : List (List ℕ))
+        → KnowsCodes known.now s → HasCodes given.old.taken before
+        → (after : List (List ℕ)) × HasCodes given.new.taken after
+        × GetCodes s (map code_contents codes.old.items) before given.old.position
         (as_new_wave (changed_contents wave.now) ∷ []) (map code_contents codes.new.items) after
-        next []) }
+        given.new.position []) }
     ensures count { OnOk result (length codes.new.items ≡ length codes.old.items + 1) }
 {
-    if has_code(taken, wave.code) {
-        let next = code_fresh(codes, alloc, known, position, wave.new)?;
-        return Ok(next);
+    if has_code(&given.taken, wave.code) {
+        let next = code_fresh(codes, alloc, known, given.position, wave.new)?;
+        given.position = next;
+        return Ok(());
     }
-    add_code(taken, alloc, wave.code)?;
+    add_code(&mut given.taken, alloc, wave.code)?;
     push_own(codes, alloc, wave)?;
-    Ok(position)
+    Ok(())
 }
 
 /// Appends a wave with its own code.

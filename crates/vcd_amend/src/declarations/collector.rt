@@ -11,7 +11,7 @@ ghost use Rattle.vcd_amend.specs.inside.declarations.Collector.{HasCollected, Is
 use super::DeclaredVariable;
 use super::variable_size::VariableSize;
 use std::alloc::Global;
-use vcd_copy::{AmendableItem, Amender, InPlace, VariableWords};
+use vcd_copy::{AmendableItem, Amender, EndedItem, InPlace, VariableWords};
 use vcd_core::{
     NameWords, NoMemory, ScopeName, ScopePath, Seq, Sink, Word, copy_scopes, copy_word,
 };
@@ -66,17 +66,10 @@ impl<W: Sink> Amender<W> for Collector {
         InPlace::Other
     }
 
-    fn take(
-        &mut self,
-        _output: &mut Output<W>,
-        item: AmendableItem,
-        _code: &[u8],
-        scopes: &[ScopeName],
-        _space: &[u8],
-        body: &[u8],
-    ) -> Result<(), NoMemory> {
-        match item {
+    fn take(&mut self, _output: &mut Output<W>, ended: &EndedItem) -> Result<(), NoMemory> {
+        match ended.item {
             AmendableItem::Variable => {
+                let (scopes, body) = (ended.scopes, ended.body);
                 collect(self.alloc, &mut self.declared, &mut self.path, scopes, body)?;
                 Ok(())
             }

@@ -13,12 +13,13 @@ use Rattle.vcd_part.specs.Requests.{texts}
 use Rattle.vcd_amend_program.specs.CommandLine.{asked_options, option_app, options_in}
 
 -- the options that the getters read
-pub read_options : (m : ArgMatches) (words : List Text) (input capture script output : Option (Bor Text)) (depth : ℕ)
-    (marked quiet all : Bool) (keep remove : Option (Bor (List (Bor Text)))) (from to : Option (Bor Text))
+pub read_options : (m : ArgMatches) (words : List Text) (input capture script verify output : Option (Bor Text))
+    (depth : ℕ) (marked quiet all : Bool) (keep remove : Option (Bor (List (Bor Text)))) (from to : Option (Bor Text))
     → rows_of (found_of m) ≡ matches_of option_app words
     → option_map (λ s. s.now) input ≡ first_value (found_of m) (codes "input-file")
     → option_map (λ s. s.now) capture ≡ first_value (found_of m) (codes "capture")
     → option_map (λ s. s.now) script ≡ first_value (found_of m) (codes "script")
+    → option_map (λ s. s.now) verify ≡ first_value (found_of m) (codes "verify")
     → option_map (λ s. s.now) output ≡ first_value (found_of m) (codes "output-file")
     → depth ≡ depth_asked (one_text (found_of m) (codes "depth"))
     → marked ≡ is_given (first_value (found_of m) (codes "mark"))
@@ -33,6 +34,7 @@ pub read_options : (m : ArgMatches) (words : List Text) (input capture script ou
       capture = capture;
       script = script;
       output = output;
+      verify = verify;
       depth = depth;
       is_marked = marked;
       is_quiet = quiet;
@@ -42,8 +44,8 @@ pub read_options : (m : ArgMatches) (words : List Text) (input capture script ou
       from = from;
       to = to;
     }) ≡ asked_options words
-read_options m words input capture script output depth marked quiet all keep remove from to rows is_input is_capture
-    is_script is_output is_depth is_marked is_quiet is_all is_keep is_remove is_from is_to =
+read_options m words input capture script verify output depth marked quiet all keep remove from to rows is_input
+    is_capture is_script is_verify is_output is_depth is_marked is_quiet is_all is_keep is_remove is_from is_to =
     let of_rows : (id : Text) → first_value (found_of m) id ≡ first_of id (matches_of option_app words) =
     λ id. first_value-rows (found_of m) id ∙ ap (first_of id) rows in
     let text : one_text (found_of m) (codes "depth") ≡ one_of (codes "depth") (matches_of option_app words) =
@@ -51,6 +53,7 @@ read_options m words input capture script output depth marked quiet all keep rem
     let input_is = is_input ∙ of_rows (codes "input-file") in
     let capture_is = is_capture ∙ of_rows (codes "capture") in
     let script_is = is_script ∙ of_rows (codes "script") in
+    let verify_is = is_verify ∙ of_rows (codes "verify") in
     let output_is = is_output ∙ of_rows (codes "output-file") in
     let marked_is = is_marked ∙ ap is_given (of_rows (codes "mark")) in
     let quiet_is = is_quiet ∙ ap is_given (of_rows (codes "quiet")) in
@@ -68,6 +71,7 @@ read_options m words input capture script output depth marked quiet all keep rem
       capture = capture_is i;
       script = script_is i;
       output = output_is i;
+      verify = verify_is i;
       depth = depth_is i;
       is_marked = marked_is i;
       is_quiet = quiet_is i;

@@ -365,9 +365,6 @@ module _ (s : ParseState) (gs : List CodedWave) (k : List ℕ) (e : VariableDecl
         | inr other ↦ other_not_named (with_fate stays d) other
       ]
 
-      removed_not_named : names_of (with_fate is_removed d ∷ []) ≡ []
-      removed_not_named = refl
-
       left_one : (n : SignalContents) (ks : List VariableDeclaration) (ns : List (Option SignalContents))
           → names_of (with_fate (fate_for d (Some (coded_signal s gs d n))) d ∷ []) ++ left_by ks ns
           ≡ left_by (d ∷ ks) (Some n ∷ ns)

@@ -1,10 +1,8 @@
 -- The pairs that a change finds by the places of its variable.
-use Rattle.std.proofs.Common.{◌≡◌, ℕ, ◌<◌, Option, Some, List, [], ◌∷◌, length, map, get_or, sym, subst, ◌∙◌}
-use Rattle.std.proofs.Common.{arith}
-use Rattle.std.proofs.lemmas.List.{length-map, get_or-map}
-use Rattle.vcd_core.specs.declared.bit.Bit.{Bit}
+use Rattle.std.proofs.Common.{◌≡◌, ℕ, Option, Some, List, length, map, sym, subst}
+use Rattle.std.proofs.lemmas.List.{length-map}
 use Rattle.vcd_compare.specs.inside.Occurrences.{IsLastPlace, HasOccurrences}
-use Rattle.vcd_compare.specs.inside.Pairs.{variable_in, chosen, AreListed, AreAsWide, ArePairsAfter}
+use Rattle.vcd_compare.specs.inside.Pairs.{variable_in, chosen, AreListed, ArePairsAfter}
 use Rattle.vcd_compare.specs.declared.wave_pair.Bounds.{Bounds}
 use Rattle.vcd_compare.specs.declared.occurrences.Occurrences.{Occurrences}
 use Rattle.vcd_compare.specs.declared.pairs.Pairs.{Pairs}
@@ -34,25 +32,16 @@ last_listed which variable pairs found at found_is is =
     subst (λ n. IsLastPlace (map (variable_in which) pairs) n variable at) (length-map pairs (variable_in which))
     (subst (IsLastPlace (map (variable_in which) pairs) (length (map (variable_in which) pairs)) variable) found_is is)
 
--- a pair at a place, of those at which a variable stands, has its width
-pub wide_at : (which : Which) (variable width place : ℕ) (pairs : List SignalPair) (X : Type 0)
-    → AreAsWide which variable width pairs → place < length pairs
-    → get_or (map (variable_in which) pairs) place 0 ≡ variable
-    → ((default : SignalPair) → (get_or pairs place default).width ≡ width → X) → X
-wide_at which variable width place [] X wide below stands gives = absurd (omega arith)
-wide_at which variable width place (p ∷ pairs) X wide below stands gives =
-    gives p (wide place p below (sym (get_or-map (variable_in which) (p ∷ pairs) place p 0 below) ∙ stands))
-
 -- pairs that were lent have changed
-pub after_lent : (bounds : Bounds) (which : Which) (variable tick limit : ℕ) (value : List Bit) (last : ℕ)
+pub after_lent : (bounds : Bounds) (which : Which) (variable tick limit : ℕ) (digits : List ℕ) (last : ℕ)
     (places : Occurrences) (old lent new : List SignalPair) → lent ≡ old
     → (HasOccurrences limit (map (variable_in which) lent) places
     → IsLastPlace (map (variable_in which) lent) (length lent) variable (Some last)
-    → ArePairsAfter bounds which variable tick value lent new)
+    → ArePairsAfter bounds which variable tick digits lent new)
     → HasOccurrences limit (map (variable_in which) old) places
     → IsLastPlace (map (variable_in which) old) (length old) variable (Some last)
-    → ArePairsAfter bounds which variable tick value old new
-after_lent bounds which variable tick limit value last places old lent new lent_is after has last_is =
-    subst (λ l. ArePairsAfter bounds which variable tick value l new) lent_is
+    → ArePairsAfter bounds which variable tick digits old new
+after_lent bounds which variable tick limit digits last places old lent new lent_is after has last_is =
+    subst (λ l. ArePairsAfter bounds which variable tick digits l new) lent_is
     (after (subst (λ l. HasOccurrences limit (map (variable_in which) l) places) (sym lent_is) has)
     (subst (λ l. IsLastPlace (map (variable_in which) l) (length l) variable (Some last)) (sym lent_is) last_is))

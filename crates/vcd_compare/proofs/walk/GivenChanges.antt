@@ -1,16 +1,16 @@
 -- A pair that gets the next change of one of both files.
-use Rattle.std.proofs.Common.{◌≡◌, ◌≢◌, ℕ, ◌≤◌, ◌*◌, true, false, List, [], ◌∷◌, ◌++◌, get_or, map, refl}
+use Rattle.std.proofs.Common.{◌≡◌, ◌≢◌, ℕ, ◌≤◌, ◌*◌, true, false, List, [], ◌∷◌, ◌++◌, Some, get_or, map, refl}
 use Rattle.std.proofs.Common.{sym, ap, subst, ◌∙◌, arith, inl, inr, append_assoc, eq-eqb}
 use Rattle.std.proofs.lemmas.Bool.{cases_Bool, cases_eq, ne_eqb}
 use Rattle.vcd_core.specs.declared.bit.Bit.{Bit}
 use Rattle.vcd_core.specs.declared.wave.Change.{Change}
 use Rattle.vcd_core.specs.Wave.{change}
-use Rattle.vcd_text.specs.Letters.{extension, letters_of_digits}
+use Rattle.vcd_text.specs.Letters.{extension, letters_of_digits, value_of_digits}
 use Rattle.vcd_text.specs.HeardChanges.{HeardChange, is_of_kept}
 use Rattle.vcd_text.specs.HeardLaws.{TicksRise}
 use Rattle.vcd_text.specs.declared.reading.heard_changes.ChangeTarget.TheVariants.{Kept}
 use Rattle.vcd_compare.specs.inside.Pairs.{AllFrom, IsWavePairAt, IsPairAfter, ArePairsAfter, WaveOfLetters}
-use Rattle.vcd_compare.specs.inside.Pairs.{AreAsWide, HasChanged}
+use Rattle.vcd_compare.specs.inside.Pairs.{AreAsWide}
 use Rattle.vcd_compare.specs.inside.WalkSteps.{scaled_changes, wave_heard, AllHeardFrom, IsPairAt, ArePairsAt}
 use Rattle.vcd_compare.specs.declared.wave_pair.Bounds.{Bounds}
 use Rattle.vcd_compare.specs.declared.wave_pair.WavePair.{WavePair}
@@ -65,9 +65,15 @@ other_change factor size position variable h hs target apart =
 -- ---- one pair
 
 module _ (bounds : Bounds) (factor other_factor floor : ℕ) (given other_given : List HeardChange) (h : HeardChange)
-    (variable width : ℕ) (target : h.target ≡ Kept variable) where
+    (variable width : ℕ) (target : h.target ≡ Kept variable)
+    (reads : value_of_digits width h.text ≡ Some (extension width (letters_of_digits h.text))) where
   abbrev value_of : (size : ℕ) → List Bit
   value_of size = extension size (letters_of_digits h.text)
+
+  -- its digits write a value of each pair of its variable
+  written : (size now : ℕ) → now ≡ size → size ≡ width → value_of_digits now h.text ≡ Some (value_of size)
+  written size now same wide =
+      ap (λ n. value_of_digits n h.text) (same ∙ wide) ∙ reads ∙ ap (λ n. Some (value_of n)) (sym wide)
 
   -- what holds of a wave's changes that are left, before and after the change, which is one of it or not
   by_variable : (P : List Change → WavePair (List Bit) → Type 0) (own_factor size position : ℕ)
@@ -88,12 +94,13 @@ module _ (bounds : Bounds) (factor other_factor floor : ℕ) (given other_given 
   first_given : (old now new : SignalPair) → floor ≤ h.tick * factor
       → (old.first_variable ≡ variable → old.width ≡ width)
       → IsPairAt bounds factor other_factor floor given other_given old now
-      → IsPairAfter bounds First variable (h.tick * factor) (value_of width) now new
+      → IsPairAfter bounds First variable (h.tick * factor) h.text now new
       → IsPairAt bounds factor other_factor (h.tick * factor) (given ++ h ∷ []) other_given old new
   first_given old now new later wide at after =
       let size : ℕ = old.width in
       let tick : ℕ = h.tick * factor in
       let variable_is = ap (λ (p : SignalPair). p.first_variable) at.others in
+      let width_is = ap (λ (p : SignalPair). p.width) at.others in
       record {
         others = after.others ∙ ap {A = SignalPair} {B = SignalPair} (λ p. record p { waves = new.waves }) at.others;
         compared = λ last left other_left upto from other_from.
@@ -108,8 +115,7 @@ module _ (bounds : Bounds) (factor other_factor floor : ℕ) (given other_given 
             (λ same begun. step_first bounds last _ other (change tick (value_of size)) left_a left_b now.waves
             new.waves begun (changes_from factor size old.first_variable tick left from)
             (changes_from other_factor size old.second_variable tick other_left other_from) upto
-            (subst (λ n. HasChanged bounds First tick (value_of n) now.waves new.waves) (sym (wide same))
-            (after.changed (variable_is ∙ same))))
+            (after.changed (value_of size) (variable_is ∙ same) (written size now.width width_is (wide same))))
             (λ apart. after.unchanged (λ e. apart (sym variable_is ∙ e)))
             (at.compared last (h ∷ left) other_left (omega (arith, later, upto))
             (later, from_earlier factor floor tick left later from)
@@ -120,12 +126,13 @@ module _ (bounds : Bounds) (factor other_factor floor : ℕ) (given other_given 
   second_given : (old now new : SignalPair) → floor ≤ h.tick * other_factor
       → (old.second_variable ≡ variable → old.width ≡ width)
       → IsPairAt bounds factor other_factor floor given other_given old now
-      → IsPairAfter bounds Second variable (h.tick * other_factor) (value_of width) now new
+      → IsPairAfter bounds Second variable (h.tick * other_factor) h.text now new
       → IsPairAt bounds factor other_factor (h.tick * other_factor) given (other_given ++ h ∷ []) old new
   second_given old now new later wide at after =
       let size : ℕ = old.width in
       let tick : ℕ = h.tick * other_factor in
       let variable_is = ap (λ (p : SignalPair). p.second_variable) at.others in
+      let width_is = ap (λ (p : SignalPair). p.width) at.others in
       record {
         others = after.others ∙ ap {A = SignalPair} {B = SignalPair} (λ p. record p { waves = new.waves }) at.others;
         compared = λ last left other_left upto from other_from.
@@ -140,8 +147,7 @@ module _ (bounds : Bounds) (factor other_factor floor : ℕ) (given other_given 
             (λ same begun. step_second bounds last wave _ (change tick (value_of size)) left_a left_b now.waves
             new.waves begun (changes_from factor size old.first_variable tick left from)
             (changes_from other_factor size old.second_variable tick other_left other_from) upto
-            (subst (λ n. HasChanged bounds Second tick (value_of n) now.waves new.waves) (sym (wide same))
-            (after.changed (variable_is ∙ same))))
+            (after.changed (value_of size) (variable_is ∙ same) (written size now.width width_is (wide same))))
             (λ apart. after.unchanged (λ e. apart (sym variable_is ∙ e)))
             (at.compared last left (h ∷ other_left) (omega (arith, later, upto))
             (from_earlier factor floor tick left later from)
@@ -153,7 +159,7 @@ module _ (bounds : Bounds) (factor other_factor floor : ℕ) (given other_given 
   pub all_first_given : (old now new : List SignalPair) → floor ≤ h.tick * factor
       → AreAsWide First variable width old
       → ArePairsAt bounds factor other_factor floor given other_given old now
-      → ArePairsAfter bounds First variable (h.tick * factor) (value_of width) now new
+      → ArePairsAfter bounds First variable (h.tick * factor) h.text now new
       → ArePairsAt bounds factor other_factor (h.tick * factor) (given ++ h ∷ []) other_given old new
   all_first_given old now new later wide at after = record {
     count = after.count ∙ at.count;
@@ -166,7 +172,7 @@ module _ (bounds : Bounds) (factor other_factor floor : ℕ) (given other_given 
   pub all_second_given : (old now new : List SignalPair) → floor ≤ h.tick * other_factor
       → AreAsWide Second variable width old
       → ArePairsAt bounds factor other_factor floor given other_given old now
-      → ArePairsAfter bounds Second variable (h.tick * other_factor) (value_of width) now new
+      → ArePairsAfter bounds Second variable (h.tick * other_factor) h.text now new
       → ArePairsAt bounds factor other_factor (h.tick * other_factor) given (other_given ++ h ∷ []) old new
   all_second_given old now new later wide at after = record {
     count = after.count ∙ at.count;

@@ -1,13 +1,12 @@
 -- The variables of one code have one size, so all pairs of a code are as wide as its variables.
-use Rattle.std.proofs.Common.{◌≡◌, ℕ, ◌≤◌, Bool, true, false, cond, not, ◌||◌, ◌&&◌, List, [], ◌∷◌, ◌++◌, get_or}
+use Rattle.std.proofs.Common.{◌≡◌, ℕ, Bool, true, false, cond, not, ◌||◌, ◌&&◌, List, [], ◌∷◌, ◌++◌, get_or}
 use Rattle.std.proofs.Common.{Option, Some, None, IsTrue, IsSomeAnd, All, refl, sym, ap, subst, ◌∙◌, arith}
 use Rattle.std.specs.Prelude.{find, bytes_eq, ◌==◌, slice_get, option_to_list}
-use Rattle.std.proofs.lemmas.Bool.{or_parts, false≢true, not-true, eqb-true, eqb-false, ltb-false}
+use Rattle.std.proofs.lemmas.Bool.{false≢true, not-true, eqb-true}
 use Rattle.std.proofs.lemmas.Slice.Eq.{bytes_eq-Decides}
 use Rattle.std.proofs.lemmas.List.Elements.{All-nil, All-push, All-filter, All-weaker, filter_passes}
 use Rattle.std.proofs.lemmas.List.Folds.{find-append}
 use Rattle.std.proofs.lemmas.Option.{same_Some, slice_get_within, get_or_from_slice_get}
-use Rattle.vcd_core.specs.declared.value.TheConstants.{WIDTH_LIMIT}
 use Rattle.vcd_text.specs.Items.{Item, entry, timescale, scope, upscope, variable, end_definitions, stamp, scalar}
 use Rattle.vcd_text.specs.Items.{vector, real_or_string, dump_word, other}
 use Rattle.vcd_text.specs.Grammar.{ParseState, VariableDeclaration, Allows, AllowsAll, state_after, state_after_item}
@@ -127,13 +126,6 @@ have_one_size limit state heard are k j d e at_d at_e same =
     (λ x. x.size ≡ e.size)) (sym same)
     (kept_at (IsAgreed state.declared) (kept_variables state.declared) j e kept at_e
     (is_kept state.declared j e at_e)))
-
--- the size of a kept variable is one of a signal
-pub size_within : (declared : List VariableDeclaration) (k : ℕ) (d : VariableDeclaration)
-    → slice_get (kept_variables declared) k ≡ Some d → (1 ≤ d.size) × (d.size ≤ WIDTH_LIMIT)
-size_within declared k d at =
-    let keeps = is_kept declared k d at in
-    grind (arith, or_parts, eqb-false, ltb-false)
 
 -- ---- the pairs
 

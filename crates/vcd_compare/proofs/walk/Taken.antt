@@ -1,12 +1,11 @@
 -- The walk takes the next change of a file.
-use Rattle.std.proofs.Common.{◌≡◌, ℕ, ◌<◌, ◌≤◌, ◌*◌, List, [], ◌∷◌, ◌++◌, length, get_or, Option, Some, None, min}
+use Rattle.std.proofs.Common.{◌≡◌, ℕ, ◌≤◌, ◌*◌, List, [], ◌∷◌, ◌++◌, length, Option, Some, None, min}
 use Rattle.std.proofs.Common.{refl, sym, ap, subst, ◌∙◌, arith, append_assoc, All}
 use Rattle.std.specs.Prelude.{slice_get, IsTrue, IsSomeAnd, IfSome}
 use Rattle.std.proofs.Math.Seq.{get_or-append_seam}
 use Rattle.std.proofs.lemmas.List.{length-append}
 use Rattle.std.proofs.lemmas.Option.{same_Some, slice_get_within}
 use Rattle.vcd_core.specs.declared.capture.TheConstants.{SIGNAL_LIMIT}
-use Rattle.vcd_core.specs.declared.value.TheConstants.{WIDTH_LIMIT}
 use Rattle.vcd_text.specs.Letters.{extension, letters_of_digits, value_of_digits}
 use Rattle.vcd_text.specs.Grammar.{VariableDeclaration, ParseState, initial_state, kept_variables}
 use Rattle.vcd_text.specs.HeardChanges.{HeardChange, AreHeard}
@@ -15,20 +14,17 @@ use Rattle.vcd_text.specs.inside.reading.ChangeStream.{HasStreamed}
 use Rattle.vcd_text.specs.declared.reading.heard_changes.ChangeTarget.{ChangeTarget}
 use Rattle.vcd_text.specs.declared.reading.heard_changes.ChangeTarget.TheVariants.{Kept, Skipped}
 use Rattle.vcd_text.proofs.shared.HeardMeaning.{heard_fit, declarations_stay}
-use Rattle.vcd_compare.specs.inside.Pairs.{AreListed, AreAsWide, ArePairsAfter, variable_in, chosen}
+use Rattle.vcd_compare.specs.inside.Pairs.{ArePairsAfter}
 use Rattle.vcd_compare.specs.inside.Side.{at_hand, first_tick, IsHeardWhole}
-use Rattle.vcd_compare.specs.inside.WalkSteps.{scaled_ticks, ArePairsAt, IsPlan, IsWalkAt, IsSideSince, IsNextChange}
+use Rattle.vcd_compare.specs.inside.WalkSteps.{scaled_ticks, IsPlan, IsWalkAt, IsSideSince, IsNextChange}
 use Rattle.vcd_compare.specs.inside.WalkSteps.{AreGiven}
 use Rattle.vcd_compare.specs.inside.WalkSteps.{earlier_tick}
-use Rattle.vcd_compare.specs.declared.wave_pair.Bounds.{Bounds}
 use Rattle.vcd_compare.specs.declared.pairs.Pairs.{Pairs}
-use Rattle.vcd_compare.specs.declared.pairs.Which.{Which}
 use Rattle.vcd_compare.specs.declared.pairs.Which.TheVariants.{First, Second}
-use Rattle.vcd_compare.specs.declared.pairs.SignalPair.{SignalPair}
 use Rattle.vcd_compare.specs.declared.side.Side.{Side}
 use Rattle.vcd_compare.specs.declared.walk.Walk.{Walk}
 use Rattle.vcd_compare.proofs.walk.GivenChanges.{all_first_given, all_second_given}
-use Rattle.vcd_compare.proofs.walk.Planned.{HaveOneSize, have_one_size, size_within, first_wide, second_wide}
+use Rattle.vcd_compare.proofs.walk.Planned.{HaveOneSize, have_one_size, first_wide, second_wide}
 
 -- ---- a file
 
@@ -119,7 +115,6 @@ record IsFitting (kept : List VariableDeclaration) (h : HeardChange) : Type 0 wh
   there : slice_get kept variable ≡ Some declaration
   reads : value_of_digits declaration.size h.text
       ≡ Some (extension declaration.size (letters_of_digits h.text))
-  within : (1 ≤ declaration.size) × (declaration.size ≤ WIDTH_LIMIT)
   sizes : HaveOneSize kept
 
 some_and : (declared : List VariableDeclaration) (h : HeardChange) (variable : ℕ) (o : Option VariableDeclaration)
@@ -134,7 +129,6 @@ some_and declared h variable (Some d) there target sizes fits = record {
   target = target;
   there = there;
   reads = fits;
-  within = size_within declared variable d there;
   sizes = sizes;
 }
 
@@ -161,41 +155,6 @@ fitting state later more given rest all h in_body on heard was =
     (heard_fit SIGNAL_LIMIT later (given ++ h ∷ rest) whole)))
 
 -- ---- the pairs
-
--- the pairs of a variable are as wide as before
-wide_stays : (bounds : Bounds) (factor other_factor floor : ℕ) (given other_given : List HeardChange)
-    (old new : List SignalPair) (which : Which) (variable width : ℕ)
-    → ArePairsAt bounds factor other_factor floor given other_given old new → AreAsWide which variable width old
-    → AreAsWide which variable width new
-wide_stays bounds factor other_factor floor given other_given old new which variable width at wide i default below
-    same =
-    let count = at.count in
-    let inside : i < length old = omega (arith, count, below) in
-    let others = (at.each i default inside).others in
-    ap (λ (p : SignalPair). p.width) others
-    ∙ wide i default inside (sym (kept_variable which (get_or old i default) (get_or new i default) others) ∙ same)
-  where
-    kept_variable : (which : Which) (p q : SignalPair) → q ≡ record p { waves = q.waves }
-        → variable_in which q ≡ variable_in which p
-    kept_variable First p q others = ap (λ (p : SignalPair). p.first_variable) others
-    kept_variable Second p q others = ap (λ (p : SignalPair). p.second_variable) others
-
--- the pairs get the change of a variable of the side that `which` names
-after_given : (bounds : Bounds) (factor other_factor floor tick count others : ℕ)
-    (given other_given : List HeardChange) (which : Which) (kept : List VariableDeclaration) (h : HeardChange)
-    (planned : List SignalPair) (old new : Pairs) (fits : IsFitting kept h) → AreGiven which tick h old new
-    → old.bounds ≡ bounds → AreListed count others old → fits.variable < chosen which count others
-    → AreAsWide which fits.variable fits.declaration.size planned
-    → ArePairsAt bounds factor other_factor floor given other_given planned old.all.items
-    → ArePairsAfter bounds which fits.variable tick (extension fits.declaration.size (letters_of_digits h.text))
-    old.all.items new.all.items
-after_given bounds factor other_factor floor tick count others given other_given which kept h planned old new fits gives
-    same listed below wide at =
-    let value = extension fits.declaration.size (letters_of_digits h.text) in
-    subst (λ b. ArePairsAfter b which fits.variable tick value old.all.items new.all.items) same
-    (gives.changed fits.variable count others fits.declaration.size value fits.target listed below
-    (wide_stays bounds factor other_factor floor given other_given planned old.all.items which fits.variable
-    fits.declaration.size at wide) fits.within.0 fits.within.1 fits.reads)
 
 module _ (coming other left other_left : Option (List ℕ)) (s t : ParseState) (start old : Walk) (most tick k : ℕ)
     (pairs : Pairs) (h : HeardChange) (rest : List HeardChange)
@@ -237,11 +196,11 @@ module _ (coming other left other_left : Option (List ℕ)) (s t : ParseState) (
             let wide = first_wide start.pairs.bounds kept other_kept start.pairs.all.items plan.planned f.variable
             f.declaration f.sizes f.there in
             all_first_given start.pairs.bounds factor old.second.factor at.floor at.given at.other_given h f.variable
-            f.declaration.size f.target start.pairs.all.items old.pairs.all.items pairs.all.items
+            f.declaration.size f.target f.reads start.pairs.all.items old.pairs.all.items pairs.all.items
             (next_from coming left s at.given at.floor start.first old.first at.first h rest was) wide (at.pairs plan)
-            (after_given start.pairs.bounds factor old.second.factor at.floor (h.tick * factor) (length kept)
-            (length other_kept) at.given at.other_given First kept h start.pairs.all.items old.pairs pairs f given
-            at.bounds (at.listed plan) (slice_get_within kept f.variable f.declaration f.there) wide (at.pairs plan));
+            (subst (λ b. ArePairsAfter b First f.variable (h.tick * factor) h.text old.pairs.all.items pairs.all.items)
+            at.bounds (given.changed f.variable (length kept) (length other_kept) f.target (at.listed plan)
+            (slice_get_within kept f.variable f.declaration f.there)));
       }
 
   pub second_taken : IsNextChange most Second tick old → at_hand old.second ≡ h ∷ rest
@@ -276,13 +235,12 @@ module _ (coming other left other_left : Option (List ℕ)) (s t : ParseState) (
             let wide = second_wide start.pairs.bounds kept other_kept start.pairs.all.items plan.planned f.variable
             f.declaration f.sizes f.there in
             all_second_given start.pairs.bounds old.first.factor factor at.floor at.given at.other_given h f.variable
-            f.declaration.size f.target start.pairs.all.items old.pairs.all.items pairs.all.items
+            f.declaration.size f.target f.reads start.pairs.all.items old.pairs.all.items pairs.all.items
             (next_from other other_left t at.other_given at.floor start.second old.second at.second h rest was) wide
             (at.pairs plan)
-            (after_given start.pairs.bounds old.first.factor factor at.floor (h.tick * factor) (length kept)
-            (length other_kept) at.given at.other_given Second other_kept h start.pairs.all.items old.pairs pairs f
-            given at.bounds (at.listed plan) (slice_get_within other_kept f.variable f.declaration f.there) wide
-            (at.pairs plan));
+            (subst (λ b. ArePairsAfter b Second f.variable (h.tick * factor) h.text old.pairs.all.items
+            pairs.all.items) at.bounds (given.changed f.variable (length kept) (length other_kept) f.target
+            (at.listed plan) (slice_get_within other_kept f.variable f.declaration f.there)));
       }
 
 -- a file with a next tick has a change at hand

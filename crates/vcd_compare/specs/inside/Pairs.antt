@@ -1,16 +1,18 @@
 -- The pairs of signals that are compared, while changes come.
 use Rattle.std.specs.Prelude.{◌≡◌, ◌≢◌, ℕ, ◌+◌, ◌≤◌, ◌<◌, max, List, [], ◌∷◌, map, length}
-use Rattle.std.specs.Prelude.{slice_index_or}
+use Rattle.std.specs.Prelude.{slice_index_or, Option, Some}
 use Rattle.std.specs.List.{AllZip}
 use Rattle.vcd_core.specs.declared.bit.Bit.{Bit}
 use Rattle.vcd_core.specs.declared.wave.Change.{Change}
 use Rattle.vcd_core.specs.Value.{same_letters}
 use Rattle.vcd_core.specs.Wave.{value_from}
+use Rattle.vcd_text.specs.Letters.{value_of_digits}
 use Rattle.vcd_compare.specs.Differences.{WaveByTicks, compared, ticks_between}
 use Rattle.vcd_compare.specs.ShortestRun.{short_run}
 use Rattle.vcd_compare.specs.inside.WavePair.{HasValueUntil, HasFoundBefore, first_after}
 use Rattle.vcd_compare.specs.inside.WavePair.{second_after}
 use Rattle.vcd_compare.specs.inside.Occurrences.{HasOccurrences}
+use Rattle.vcd_compare.specs.declared.differences.Differences.{Differences}
 use Rattle.vcd_compare.specs.declared.wave_pair.Bounds.{Bounds}
 use Rattle.vcd_compare.specs.declared.wave_pair.WavePair.{WavePair}
 use Rattle.vcd_compare.specs.declared.pairs.Which.{Which}
@@ -59,20 +61,21 @@ pub record HasChanged (bounds : Bounds) (which : Which) (tick : ℕ) (value : Li
   pub a : new.a ≡ first_after which value old.a
   pub b : new.b ≡ second_after which value old.b
 
--- a variable has got a value at a tick, which is one of a pair or not
-pub record IsPairAfter (bounds : Bounds) (which : Which) (variable tick : ℕ) (value : List Bit)
+-- a variable has got the value of these digits at a tick, which is one of a pair or not
+pub record IsPairAfter (bounds : Bounds) (which : Which) (variable tick : ℕ) (digits : List ℕ)
     (old new : SignalPair) : Type 0 where
   pub others : new ≡ record old { waves = new.waves }
-  pub changed : variable_in which old ≡ variable
+  pub changed : (value : List Bit) → variable_in which old ≡ variable
+      → value_of_digits old.width digits ≡ Some value
       → HasChanged bounds which tick value old.waves new.waves
   pub unchanged : variable_in which old ≢ variable → new.waves ≡ old.waves
 
 -- the same of all pairs
-pub record ArePairsAfter (bounds : Bounds) (which : Which) (variable tick : ℕ) (value : List Bit)
+pub record ArePairsAfter (bounds : Bounds) (which : Which) (variable tick : ℕ) (digits : List ℕ)
     (old new : List SignalPair) : Type 0 where
   pub count : length new ≡ length old
   pub each : (i : ℕ) (default : SignalPair) → i < length old
-      → IsPairAfter bounds which variable tick value (slice_index_or old i default)
+      → IsPairAfter bounds which variable tick digits (slice_index_or old i default)
       (slice_index_or new i default)
 
 -- ---- what a pair knows of its waves
@@ -93,19 +96,24 @@ pub record IsWavePairAt (bounds : Bounds) (last : ℕ) (wave other : WaveOfLette
 
 -- ---- the end
 
--- this is told of a pair, if `last` is the last tick of the window
+-- this is told of two waves, if `last` is the last tick of the window
+abbrev pub AreToldOf : Bounds → (last : ℕ) → WavePair (List Bit) → Differences (List Bit)
+    → (short_run : Option ℕ) → Type 0
+AreToldOf bounds last p differences short_run_told = (wave other : WaveOfLetters) → p.tick ≤ last
+    → HasFoundBefore same_letters bounds.tolerance wave other bounds.first p
+    → HasValueUntil wave p.tick (last + 1) p.a
+    → HasValueUntil other p.tick (last + 1) p.b
+    → (differences
+    ≡ compared same_letters bounds.tolerance wave other (ticks_between bounds.first last))
+    × (short_run_told
+    ≡ short_run same_letters bounds.tolerance wave other (ticks_between bounds.first last))
+
+-- the same of a pair
 pub record IsToldOf (bounds : Bounds) (last : ℕ) (p : SignalPair) (told : ComparedPair)
     : Type 0 where
   pub first : told.first ≡ p.first
   pub second : told.second ≡ p.second
-  pub waves : (wave other : WaveOfLetters) → p.waves.tick ≤ last
-      → HasFoundBefore same_letters bounds.tolerance wave other bounds.first p.waves
-      → HasValueUntil wave p.waves.tick (last + 1) p.waves.a
-      → HasValueUntil other p.waves.tick (last + 1) p.waves.b
-      → (told.differences
-      ≡ compared same_letters bounds.tolerance wave other (ticks_between bounds.first last))
-      × (told.short_run
-      ≡ short_run same_letters bounds.tolerance wave other (ticks_between bounds.first last))
+  pub waves : AreToldOf bounds last p.waves told.differences told.short_run
 
 -- the same of all pairs
 abbrev pub AreTold : Bounds → (last : ℕ) → List SignalPair → List ComparedPair → Type 0

@@ -2,18 +2,15 @@
 -- known of what is left.
 use Rattle.std.specs.Prelude.{◌≡◌, ℕ, ◌*◌, ◌≤◌, ◌<◌, min, false, List, [], ◌∷◌, ◌++◌, map}
 use Rattle.std.specs.Prelude.{length, slice_index_or, Option, Some, None, IfSome, IsTrue, Bool}
-use Rattle.vcd_core.specs.declared.bit.Bit.{Bit}
-use Rattle.vcd_core.specs.declared.value.TheConstants.{WIDTH_LIMIT}
 use Rattle.vcd_core.specs.declared.wave.Change.{Change}
 use Rattle.vcd_core.specs.Wave.{change, value_at}
-use Rattle.vcd_text.specs.Letters.{value_of_digits}
 use Rattle.vcd_text.specs.Grammar.{ParseState, kept_variables}
 use Rattle.vcd_text.specs.HeardChanges.{HeardChange, AreHeard, heard_changes}
 use Rattle.vcd_text.specs.HeardLaws.{TicksRise}
 use Rattle.vcd_text.specs.inside.reading.ChangeStream.{IsStreamAt}
 use Rattle.vcd_text.specs.declared.reading.heard_changes.ChangeTarget.TheVariants.{Kept}
 use Rattle.vcd_compare.specs.Comparisons.{IsCompareFault}
-use Rattle.vcd_compare.specs.inside.Pairs.{WaveOfLetters, IsWavePairAt, AreListed, AreAsWide}
+use Rattle.vcd_compare.specs.inside.Pairs.{WaveOfLetters, IsWavePairAt, AreListed}
 use Rattle.vcd_compare.specs.inside.Pairs.{ArePairsAfter, chosen}
 use Rattle.vcd_compare.specs.inside.Side.{at_hand, needs_chunk, first_tick, IsSideAt, ReadsOn}
 use Rattle.vcd_compare.specs.inside.Side.{IsHeardWhole}
@@ -118,11 +115,9 @@ pub record AreGiven (which : Which) (tick : ℕ) (h : HeardChange) (old new : Pa
   pub bounds : new.bounds ≡ old.bounds
   pub listed : (variable count others : ℕ) → h.target ≡ Kept variable → AreListed count others old
       → variable < chosen which count others → AreListed count others new
-  pub changed : (variable count others width : ℕ) (value : List Bit) → h.target ≡ Kept variable
+  pub changed : (variable count others : ℕ) → h.target ≡ Kept variable
       → AreListed count others old → variable < chosen which count others
-      → AreAsWide which variable width old.all.items → 1 ≤ width → width ≤ WIDTH_LIMIT
-      → value_of_digits width h.text ≡ Some value
-      → ArePairsAfter old.bounds which variable tick value old.all.items new.all.items
+      → ArePairsAfter old.bounds which variable tick h.text old.all.items new.all.items
 
 -- the earlier one of two ticks
 abbrev pub earlier_tick : (tick other : Option ℕ) → Option ℕ

@@ -3,7 +3,8 @@
 ghost use Rattle.std.specs.Prelude.{◌≡◌, ◌++◌, ◌∷◌, [], ℕ, Bool, List, OnOk, OnErr, true, false};
 ghost use Rattle.vcd_copy.specs.Pieces.{Piece};
 ghost use Rattle.vcd_copy.specs.Copied as spec;
-ghost use Rattle.vcd_copy.specs.Copied.{CopyRules, IsNext, IsShownNext, IsTakenNext};
+ghost use Rattle.vcd_copy.specs.Copied.{CopyRules, IsNext, IsShownNext};
+ghost use Rattle.vcd_copy.specs.EndedItems.{IsGivenNext};
 ghost use Rattle.vcd_copy.specs.Copied.{may_be_amended};
 ghost use Rattle.vcd_text.specs.EmittedText.{Emits, EmitsMore};
 ghost use Rattle.vcd_copy.specs.declared.copying.amender.InPlace.TheVariants as places;
@@ -29,6 +30,28 @@ pub enum AmendableItem {
     Value,
     /// A change to a real number or a string.
     RealOrString,
+}
+
+/// An item that may be amended, once it has ended.
+#[derive(Clone, Copy)]
+pub struct EndedItem<'a> {
+    pub item: AmendableItem,
+    /// That of a change, and else of no meaning.
+    pub code: &'a [u8],
+    /// Those that are open, outermost first.
+    pub scopes: &'a [ScopeName],
+    /// The white space before the item.
+    pub space: &'a [u8],
+    /// Its words, with the white space between them.
+    pub body: &'a [u8],
+}
+
+/// A stamp with its bytes in a file.
+#[derive(Clone, Copy)]
+pub struct StampBytes<'a> {
+    pub tick: u64,
+    pub space: &'a [u8],
+    pub body: &'a [u8],
 }
 
 /// What is in the place of an item that may be amended.
@@ -80,27 +103,17 @@ pub trait Amender<W: Sink> {
         ensures unchanged { result ≡ places.Other → self.new ≡ self.old }
         ensures same { given self.new ≡ given self.old };
 
-    /// Writes what is in the place of an item: of the white space before it, and of its words with
-    /// the white space between them. The code is that of a change, and else of no meaning. The
-    /// scopes are those that are open, outermost first.
-    fn take(
-        &mut self,
-        output: &mut Output<W>,
-        item: AmendableItem,
-        code: &[u8],
-        scopes: &[ScopeName],
-        space: &[u8],
-        body: &[u8],
-    ) -> Result<(), NoMemory>
+    /// Writes what is in the place of an item.
+    fn take(&mut self, output: &mut Output<W>, ended: &EndedItem) -> Result<(), NoMemory>
         requires { (limit : ℕ) × (before : List Piece) × (p : Piece) × has_seen self.old before
-            × IsTakenNext limit before p item code.now scopes.now space.now body.now }
+            × IsGivenNext limit before p ended.now }
         ensures written { OnOk result ((limit : ℕ) (before : List Piece) (p : Piece) →
             has_seen self.old before →
-            IsTakenNext limit before p item code.now scopes.now space.now body.now →
+            IsGivenNext limit before p ended.now →
             Emits W.Sink output.old output.new ((rules (given self.old)).in_place before p)) }
         ensures seen { OnOk result ((limit : ℕ) (before : List Piece) (p : Piece) →
             has_seen self.old before →
-            IsTakenNext limit before p item code.now scopes.now space.now body.now →
+            IsGivenNext limit before p ended.now →
             has_seen self.new (before ++ p ∷ [])) }
         ensures same { OnOk result (given self.new ≡ given self.old) }
         ensures more { OnErr result (EmitsMore W.Sink output.old output.new) };

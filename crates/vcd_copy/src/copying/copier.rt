@@ -45,14 +45,7 @@ impl<'a, 'w, W: Sink, A: Amender<W>> Listener for Copier<'a, 'w, W, A> {
         parser: &mut Parser,
         words: Words,
     ) -> Result<u64, ReadError> {
-        copy_words(
-            alloc,
-            parser,
-            &mut self.held,
-            self.amender,
-            &mut self.output,
-            words,
-        )
+        copy_words(self, alloc, parser, words)
     }
 
     /// Whether the writer has failed, or the amender is done.
@@ -67,17 +60,16 @@ impl<'a, 'w, W: Sink, A: Amender<W>> Listener for Copier<'a, 'w, W, A> {
 /// Copies words one after another, up to the first that shows a fault, and holds the white space
 /// after the last. Returns the number of line feeds before the end of their text.
 fn copy_words<W: Sink, A: Amender<W>>(
+    copier: &mut Copier<W, A>,
     alloc: Global,
     parser: &mut Parser,
-    held: &mut Held,
-    amender: &mut A,
-    output: &mut Output<W>,
     words: Words,
 ) -> Result<u64, ReadError>
     requires reading { (limit : ℕ) × CanTake limit unheard parser.old (words_left words) }
     requires copying { (limit : ℕ) × (start : Output W) × (before : List ℕ)
-        × HasCopied limit (A.rules (A.given amender.old)) (A.has_seen amender.old)
-        (Emits W.Sink start output.old) parser.old held.old.bytes.items held.old.space_len before
+        × HasCopied limit (A.rules (A.given copier.old.amender.now))
+        (A.has_seen copier.old.amender.now) (Emits W.Sink start copier.old.output) parser.old
+        copier.old.held.bytes.items copier.old.held.space_len before
         × (has_complete_words before ≡ true) }
     ensures words { (limit : ℕ) (words_so_far : List WordInFile) →
         HasTakenWords limit unheard parser.old words_so_far →
@@ -85,34 +77,29 @@ fn copy_words<W: Sink, A: Amender<W>>(
     ensures line_feeds { IfOk result (λ line_feeds.
         line_feeds ≡ words.entry.line_feeds + line_feeds_in words.entry.rest.now) }
     ensures copied { OnOk result ((limit : ℕ) (start : Output W) (before : List ℕ) →
-        HasCopied limit (A.rules (A.given amender.old)) (A.has_seen amender.old)
-        (Emits W.Sink start output.old) parser.old held.old.bytes.items held.old.space_len before →
+        HasCopied limit (A.rules (A.given copier.old.amender.now))
+        (A.has_seen copier.old.amender.now) (Emits W.Sink start copier.old.output) parser.old
+        copier.old.held.bytes.items copier.old.held.space_len before →
         has_complete_words before ≡ true →
-        HasCopied limit (A.rules (A.given amender.old)) (A.has_seen amender.new)
-        (Emits W.Sink start output.new) parser.new held.new.bytes.items held.new.space_len
+        HasCopied limit (A.rules (A.given copier.old.amender.now))
+        (A.has_seen copier.new.amender.now) (Emits W.Sink start copier.new.output) parser.new
+        copier.new.held.bytes.items copier.new.held.space_len
         (before ++ words.entry.rest.now)) }
-    ensures same { OnOk result (A.given amender.new ≡ A.given amender.old) }
-    ensures more { EmitsMore W.Sink output.old output.new }
+    ensures same { OnOk result (A.given copier.new.amender.now ≡ A.given copier.old.amender.now) }
+    ensures same_amender { copier.new.amender.ghost_name ≡ copier.old.amender.ghost_name }
+    ensures more { EmitsMore W.Sink copier.old.output copier.new.output }
 {
     let mut left = words;
     let mut unwritten = Unwritten {
         all: left.rest,
         item: left.rest,
+        rest: left.rest,
     };
     while let Some(word) = left.next_word() {
-        copy_word(
-            alloc,
-            parser,
-            held,
-            amender,
-            output,
-            &mut unwritten,
-            word.text,
-            word.line,
-            left.rest,
-        )?;
+        unwritten.rest = left.rest;
+        copy_word(copier, alloc, parser, &mut unwritten, word)?;
     }
-    write_standing(output, &unwritten);
-    hold(&mut held.bytes, unwritten.item)?;
+    write_standing(&mut copier.output, &unwritten);
+    hold(&mut copier.held.bytes, unwritten.item)?;
     Ok(left.line_feeds)
 }

@@ -11,107 +11,110 @@ ghost use Rattle.vcd_text.specs.inside.reading.Scopes.{open_scopes};
 ghost use Rattle.vcd_copy.specs.inside.Copying.{IsUnwritten, IsHeldPiece, HasPassed};
 ghost use Rattle.vcd_text.specs.EmittedText.{Emits, EmitsMore};
 
-use super::amender::{AmendableItem, Amender, InPlace};
-use super::pieces::{Held, Unwritten, hold, leave_out, let_stand, write_held, write_standing};
+use super::amender::{AmendableItem, Amender, EndedItem, InPlace};
+use super::copier::Copier;
+use super::pieces::{Unwritten, hold, leave_out, let_stand, write_held, write_standing};
 use vcd_core::{HeaderKind, NoMemory, ScopeName, Sink, Timescale};
-use vcd_text::{OpenItem, Output, Parser};
+use vcd_text::{OpenItem, Parser};
 
 /// Does what becomes of the item that this word ends; `earlier` is what was open before.
-pub fn end_item<'a, W: Sink, A: Amender<W>>(
+pub fn end_item<W: Sink, A: Amender<W>>(
+    copier: &mut Copier<W, A>,
     parser: &Parser,
-    held: &mut Held,
-    amender: &mut A,
-    output: &mut Output<W>,
-    unwritten: &mut Unwritten<'a>,
+    unwritten: &mut Unwritten,
     earlier: OpenItem,
     text: &[u8],
-    rest: &'a [u8],
 ) -> Result<(), NoMemory>
     requires { (limit : ℕ) × (before : List Piece) × (p : Piece)
-        × (known begun : List ℕ) × A.has_seen amender.old before
+        × (known begun : List ℕ) × A.has_seen copier.old.amender.now before
         × EndsPiece limit before p earlier text.now parser.now
-        × IsUnwritten held.old.bytes.items unwritten.old.all.now unwritten.old.item.now rest.now
-        known begun
-        × IsHeldPiece earlier (held.old.bytes.items ++ begun) held.old.space_len p }
+        × IsUnwritten copier.old.held.bytes.items unwritten.old.all.now unwritten.old.item.now
+        unwritten.old.rest.now known begun
+        × IsHeldPiece earlier (copier.old.held.bytes.items ++ begun) copier.old.held.space_len p }
     ensures ended { OnOk result (
         (limit : ℕ) (before : List Piece) (p : Piece) (known begun : List ℕ) →
-        A.has_seen amender.old before → EndsPiece limit before p earlier text.now parser.now →
-        IsUnwritten held.old.bytes.items unwritten.old.all.now unwritten.old.item.now rest.now
-        known begun →
-        IsHeldPiece earlier (held.old.bytes.items ++ begun) held.old.space_len p →
-        HasPassed W.Sink output.old output.new held.new.bytes.items unwritten.new.all.now
-        unwritten.new.item.now rest.now known
-        (if stands_open earlier then held.old.bytes.items ++ begun
-        else copied_piece (A.rules (A.given amender.old)) before p)
-        × A.has_seen amender.new (before ++ p ∷ [])) }
-    ensures same { OnOk result (A.given amender.new ≡ A.given amender.old) }
-    ensures more { EmitsMore W.Sink output.old output.new }
+        A.has_seen copier.old.amender.now before →
+        EndsPiece limit before p earlier text.now parser.now →
+        IsUnwritten copier.old.held.bytes.items unwritten.old.all.now unwritten.old.item.now
+        unwritten.old.rest.now known begun →
+        IsHeldPiece earlier (copier.old.held.bytes.items ++ begun) copier.old.held.space_len p →
+        HasPassed W.Sink copier.old.output copier.new.output copier.new.held.bytes.items
+        unwritten.new.all.now unwritten.new.item.now unwritten.old.rest.now known
+        (if stands_open earlier then copier.old.held.bytes.items ++ begun
+        else copied_piece (A.rules (A.given copier.old.amender.now)) before p)
+        × A.has_seen copier.new.amender.now (before ++ p ∷ [])) }
+    ensures same { OnOk result (A.given copier.new.amender.now ≡ A.given copier.old.amender.now) }
+    ensures same_amender { copier.new.amender.ghost_name ≡ copier.old.amender.ghost_name }
+    ensures more { EmitsMore W.Sink copier.old.output copier.new.output }
 {
     let open_scopes = parser.variables.scopes.depth;
     match amendable_item(earlier, text, parser.tick, open_scopes, parser.timescale) {
         Some(item) => {
-            let code = code_of(earlier, text);
-            settle_item(parser, held, amender, output, unwritten, item, code, rest)?;
+            settle_item(copier, parser, unwritten, item, code_of(earlier, text))?;
             Ok(())
         }
         None => {
-            let_stand(held, amender, output, unwritten, earlier, rest);
-            amender.pass(is_comment_or_other(earlier));
+            let_stand(
+                &mut copier.held,
+                copier.amender,
+                &mut copier.output,
+                unwritten,
+                earlier,
+            );
+            copier.amender.pass(is_comment_or_other(earlier));
             Ok(())
         }
     }
 }
 
 /// Does what becomes of an item that may be amended.
-fn settle_item<'a, W: Sink, A: Amender<W>>(
+fn settle_item<W: Sink, A: Amender<W>>(
+    copier: &mut Copier<W, A>,
     parser: &Parser,
-    held: &mut Held,
-    amender: &mut A,
-    output: &mut Output<W>,
-    unwritten: &mut Unwritten<'a>,
+    unwritten: &mut Unwritten,
     item: AmendableItem,
     code: &[u8],
-    rest: &'a [u8],
 ) -> Result<(), NoMemory>
     requires { (limit : ℕ) × (before : List Piece) × (p : Piece)
-        × (known begun : List ℕ) × A.has_seen amender.old before
+        × (known begun : List ℕ) × A.has_seen copier.old.amender.now before
         × IsTakenNext limit before p item code.now (open_scopes parser.now.variables.scopes)
         p.space p.body
-        × IsUnwritten held.old.bytes.items unwritten.old.all.now unwritten.old.item.now rest.now
-        known begun
-        × (held.old.bytes.items ++ begun ≡ p.space ++ p.body)
-        × (held.old.space_len ≡ length p.space) }
+        × IsUnwritten copier.old.held.bytes.items unwritten.old.all.now unwritten.old.item.now
+        unwritten.old.rest.now known begun
+        × (copier.old.held.bytes.items ++ begun ≡ p.space ++ p.body)
+        × (copier.old.held.space_len ≡ length p.space) }
     ensures settled { OnOk result (
         (limit : ℕ) (before : List Piece) (p : Piece) (known begun : List ℕ) →
-        A.has_seen amender.old before →
+        A.has_seen copier.old.amender.now before →
         IsTakenNext limit before p item code.now (open_scopes parser.now.variables.scopes)
         p.space p.body →
-        IsUnwritten held.old.bytes.items unwritten.old.all.now unwritten.old.item.now rest.now
-        known begun →
-        (held.old.bytes.items ++ begun ≡ p.space ++ p.body) →
-        (held.old.space_len ≡ length p.space) →
-        HasPassed W.Sink output.old output.new held.new.bytes.items unwritten.new.all.now
-        unwritten.new.item.now rest.now known
-        ((A.rules (A.given amender.old)).in_place before p)
-        × A.has_seen amender.new (before ++ p ∷ [])) }
-    ensures same { OnOk result (A.given amender.new ≡ A.given amender.old) }
-    ensures more { EmitsMore W.Sink output.old output.new }
+        IsUnwritten copier.old.held.bytes.items unwritten.old.all.now unwritten.old.item.now
+        unwritten.old.rest.now known begun →
+        (copier.old.held.bytes.items ++ begun ≡ p.space ++ p.body) →
+        (copier.old.held.space_len ≡ length p.space) →
+        HasPassed W.Sink copier.old.output copier.new.output copier.new.held.bytes.items
+        unwritten.new.all.now unwritten.new.item.now unwritten.old.rest.now known
+        ((A.rules (A.given copier.old.amender.now)).in_place before p)
+        × A.has_seen copier.new.amender.now (before ++ p ∷ [])) }
+    ensures same { OnOk result (A.given copier.new.amender.now ≡ A.given copier.old.amender.now) }
+    ensures same_amender { copier.new.amender.ghost_name ≡ copier.old.amender.ghost_name }
+    ensures more { EmitsMore W.Sink copier.old.output copier.new.output }
 {
-    match amender.settle(item, code) {
+    match copier.amender.settle(item, code) {
         InPlace::Itself => {
-            write_held(output, held);
-            unwritten.item = rest;
+            write_held(&mut copier.output, &mut copier.held);
+            unwritten.item = unwritten.rest;
             Ok(())
         }
         InPlace::Nothing => {
-            leave_out(held, output, unwritten, rest);
+            leave_out(&mut copier.held, &mut copier.output, unwritten);
             Ok(())
         }
         InPlace::Other => {
             let scopes = parser.variables.scopes.opened();
-            amend_item(held, amender, output, unwritten, item, code, scopes, rest)?;
-            unwritten.all = rest;
-            unwritten.item = rest;
+            amend_item(copier, unwritten, item, code, scopes)?;
+            unwritten.all = unwritten.rest;
+            unwritten.item = unwritten.rest;
             Ok(())
         }
     }
@@ -120,46 +123,63 @@ fn settle_item<'a, W: Sink, A: Amender<W>>(
 /// Writes what stands before the open item, and what is in its place.
 #[inline(never)]
 fn amend_item<W: Sink, A: Amender<W>>(
-    held: &mut Held,
-    amender: &mut A,
-    output: &mut Output<W>,
+    copier: &mut Copier<W, A>,
     unwritten: &Unwritten,
     item: AmendableItem,
     code: &[u8],
     scopes: &[ScopeName],
-    rest: &[u8],
 ) -> Result<(), NoMemory>
     requires { (limit : ℕ) × (before : List Piece) × (p : Piece)
-        × (known begun : List ℕ) × A.has_seen amender.old before
+        × (known begun : List ℕ) × A.has_seen copier.old.amender.now before
         × IsTakenNext limit before p item code.now scopes.now p.space p.body
-        × IsUnwritten held.old.bytes.items unwritten.now.all.now unwritten.now.item.now rest.now
-        known begun
-        × (held.old.bytes.items ++ begun ≡ p.space ++ p.body)
-        × (held.old.space_len ≡ length p.space) }
+        × IsUnwritten copier.old.held.bytes.items unwritten.now.all.now unwritten.now.item.now
+        unwritten.now.rest.now known begun
+        × (copier.old.held.bytes.items ++ begun ≡ p.space ++ p.body)
+        × (copier.old.held.space_len ≡ length p.space) }
     ensures written { OnOk result (
         (limit : ℕ) (before : List Piece) (p : Piece) (known begun : List ℕ) →
-        A.has_seen amender.old before →
+        A.has_seen copier.old.amender.now before →
         IsTakenNext limit before p item code.now scopes.now p.space p.body →
-        IsUnwritten held.old.bytes.items unwritten.now.all.now unwritten.now.item.now rest.now
-        known begun →
-        (held.old.bytes.items ++ begun ≡ p.space ++ p.body) →
-        (held.old.space_len ≡ length p.space) →
-        Emits W.Sink output.old output.new
-        (known ++ (A.rules (A.given amender.old)).in_place before p)
-        × A.has_seen amender.new (before ++ p ∷ [])) }
-    ensures none { OnOk result (held.new.bytes.items ≡ []) }
-    ensures same { OnOk result (A.given amender.new ≡ A.given amender.old) }
-    ensures more { EmitsMore W.Sink output.old output.new }
+        IsUnwritten copier.old.held.bytes.items unwritten.now.all.now unwritten.now.item.now
+        unwritten.now.rest.now known begun →
+        (copier.old.held.bytes.items ++ begun ≡ p.space ++ p.body) →
+        (copier.old.held.space_len ≡ length p.space) →
+        Emits W.Sink copier.old.output copier.new.output
+        (known ++ (A.rules (A.given copier.old.amender.now)).in_place before p)
+        × A.has_seen copier.new.amender.now (before ++ p ∷ [])) }
+    ensures none { OnOk result (copier.new.held.bytes.items ≡ []) }
+    ensures same { OnOk result (A.given copier.new.amender.now ≡ A.given copier.old.amender.now) }
+    ensures same_amender { copier.new.amender.ghost_name ≡ copier.old.amender.ghost_name }
+    ensures more { EmitsMore W.Sink copier.old.output copier.new.output }
 {
-    let len = unwritten.item.len() - rest.len();
+    let Copier {
+        held,
+        amender,
+        output,
+    } = copier;
+    let len = unwritten.item.len() - unwritten.rest.len();
     if held.bytes.is_empty() {
         write_standing(output, unwritten);
         let (space, body) = unwritten.item[..len].split_at(held.space_len);
-        return amender.take(output, item, code, scopes, space, body);
+        let ended = EndedItem {
+            item,
+            code,
+            scopes,
+            space,
+            body,
+        };
+        return amender.take(output, &ended);
     }
     hold(&mut held.bytes, &unwritten.item[..len])?;
     let (space, body) = held.bytes.as_slice().split_at(held.space_len);
-    amender.take(output, item, code, scopes, space, body)?;
+    let ended = EndedItem {
+        item,
+        code,
+        scopes,
+        space,
+        body,
+    };
+    amender.take(output, &ended)?;
     held.bytes.clear();
     Ok(())
 }

@@ -2,7 +2,8 @@
 
 ghost use Rattle.std.specs.Prelude.{◌≡◌, ◌++◌, ◌∷◌, [], ℕ, List, OnOk, OnErr};
 ghost use Rattle.vcd_copy.specs.Pieces.{Piece};
-ghost use Rattle.vcd_copy.specs.Copied.{IsTakenNext, IsNext, Shows};
+ghost use Rattle.vcd_copy.specs.Copied.{IsNext, Shows};
+ghost use Rattle.vcd_copy.specs.EndedItems.{IsGivenNext};
 ghost use Rattle.vcd_copy.specs.Marks as spec;
 ghost use Rattle.vcd_copy.specs.Marks.{comment_piece};
 ghost use Rattle.vcd_copy.specs.MarkText.{comment_of_mark, mark_with_edits};
@@ -11,8 +12,8 @@ ghost use Rattle.vcd_text.specs.Grammar.{ParseState};
 ghost use Rattle.vcd_text.specs.EmittedText.{Emits, EmitsMore};
 
 use super::{Mark, write_mark};
-use crate::copying::{AmendableItem, Amender, InPlace};
-use vcd_core::{NoMemory, ScopeName, Sink};
+use crate::copying::{AmendableItem, Amender, EndedItem, InPlace};
+use vcd_core::{NoMemory, Sink};
 use vcd_text::{Output, write_bytes};
 
 /// What an amender does to a file with a mark, if there is one.
@@ -50,21 +51,20 @@ impl<'a, W: Sink, A: Amender<W>> Amender<W> for Marked<'a, A> {
         }
     }
 
-    fn take(
-        &mut self,
-        output: &mut Output<W>,
-        item: AmendableItem,
-        code: &[u8],
-        scopes: &[ScopeName],
-        space: &[u8],
-        body: &[u8],
-    ) -> Result<(), NoMemory> {
-        match mark_before(self.mark, item) {
+    fn take(&mut self, output: &mut Output<W>, ended: &EndedItem) -> Result<(), NoMemory> {
+        match mark_before(self.mark, ended.item) {
             Some(mark) => {
-                put_mark(&mut self.amender, output, &mark, space);
-                take_settled(&mut self.amender, output, item, code, scopes, b"\n", body)
+                put_mark(&mut self.amender, output, &mark, ended.space);
+                let after_mark = EndedItem {
+                    item: ended.item,
+                    code: ended.code,
+                    scopes: ended.scopes,
+                    space: b"\n",
+                    body: ended.body,
+                };
+                take_settled(&mut self.amender, output, &after_mark)
             }
-            None => self.amender.take(output, item, code, scopes, space, body),
+            None => self.amender.take(output, ended),
         }
     }
 
@@ -126,32 +126,28 @@ fn put_mark<W: Sink, A: Amender<W>>(
 fn take_settled<W: Sink, A: Amender<W>>(
     amender: &mut A,
     output: &mut Output<W>,
-    item: AmendableItem,
-    code: &[u8],
-    scopes: &[ScopeName],
-    space: &[u8],
-    body: &[u8],
+    ended: &EndedItem,
 ) -> Result<(), NoMemory>
     requires { (limit : ℕ) × (before : List Piece) × (p : Piece) × A.has_seen amender.old before
-        × IsTakenNext limit before p item code.now scopes.now space.now body.now }
+        × IsGivenNext limit before p ended.now }
     ensures written { OnOk result ((limit : ℕ) (before : List Piece) (p : Piece) →
         A.has_seen amender.old before →
-        IsTakenNext limit before p item code.now scopes.now space.now body.now →
+        IsGivenNext limit before p ended.now →
         Emits W.Sink output.old output.new ((A.rules (A.given amender.old)).in_place before p)) }
     ensures seen { OnOk result ((limit : ℕ) (before : List Piece) (p : Piece) →
         A.has_seen amender.old before →
-        IsTakenNext limit before p item code.now scopes.now space.now body.now →
+        IsGivenNext limit before p ended.now →
         A.has_seen amender.new (before ++ p ∷ [])) }
     ensures same { OnOk result (A.given amender.new ≡ A.given amender.old) }
     ensures more { OnErr result (EmitsMore W.Sink output.old output.new) }
 {
-    match amender.settle(item, code) {
+    match amender.settle(ended.item, ended.code) {
         InPlace::Itself => {
-            write_bytes(output, space);
-            write_bytes(output, body);
+            write_bytes(output, ended.space);
+            write_bytes(output, ended.body);
             Ok(())
         }
         InPlace::Nothing => Ok(()),
-        InPlace::Other => amender.take(output, item, code, scopes, space, body),
+        InPlace::Other => amender.take(output, ended),
     }
 }

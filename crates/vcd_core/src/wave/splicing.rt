@@ -7,6 +7,7 @@ ghost use Rattle.vcd_core.specs.Splice.{moved_change, TickFits, AllTicksFit, spl
 use crate::memory::NoMemory;
 use crate::wave::Change;
 use std::alloc::Global;
+use std::ops::Range;
 
 /// The change `by` ticks later, or earlier if `by` is negative.
 fn moved_change(change: &Change, by: i64) -> Change
@@ -170,22 +171,22 @@ pub(crate) fn splice_changes(
 fn fill_spliced(
     copy: &mut Vec<Change>,
     list: &[Change],
-    from: usize,
-    to: usize,
+    range: Range<usize>,
     piece: &[Change],
     by: i64,
 )
-    requires ordered { from ≤ to }
-    requires within { to ≤ length list.now }
-    requires room { length list.now + length piece.now ≤ vec_capacity copy.old + (to - from) }
-    requires ticks { AllTicksFit by (drop to list.now) }
-    ensures changes { copy.new.items ≡ spliced_changes list.now from to piece.now by }
+    requires ordered { range.start ≤ range.end }
+    requires within { range.end ≤ length list.now }
+    requires room { length list.now + length piece.now ≤ vec_capacity copy.old
+        + (range.end - range.start) }
+    requires ticks { AllTicksFit by (drop range.end list.now) }
+    ensures changes { copy.new.items ≡ spliced_changes list.now range.start range.end piece.now by }
     ensures capacity { vec_capacity copy.old ≤ vec_capacity copy.new }
 {
     copy.truncate(0);
-    copy.extend_from_slice(&list[..from]).unwrap();
+    copy.extend_from_slice(&list[..range.start]).unwrap();
     copy.extend_from_slice(piece).unwrap();
-    for change in &list[to..] {
+    for change in &list[range.end..] {
         copy.push(moved_change(change, by)).unwrap();
     }
 }
@@ -194,18 +195,18 @@ fn fill_spliced(
 pub(crate) fn spliced_copy(
     alloc: Global,
     list: &[Change],
-    from: usize,
-    to: usize,
+    range: Range<usize>,
     piece: &[Change],
     by: i64,
 ) -> Result<Vec<Change>, NoMemory>
-    requires ordered { from ≤ to }
-    requires within { to ≤ length list.now }
-    requires ticks { AllTicksFit by (drop to list.now) }
-    ensures { IfOk result (λ copy. copy.items ≡ spliced_changes list.now from to piece.now by) }
+    requires ordered { range.start ≤ range.end }
+    requires within { range.end ≤ length list.now }
+    requires ticks { AllTicksFit by (drop range.end list.now) }
+    ensures { IfOk result (λ copy. copy.items
+        ≡ spliced_changes list.now range.start range.end piece.now by) }
 {
-    let mut copy = Vec::with_capacity(alloc, list.len() - (to - from) + piece.len())?;
-    fill_spliced(&mut copy, list, from, to, piece, by);
+    let mut copy = Vec::with_capacity(alloc, list.len() - (range.end - range.start) + piece.len())?;
+    fill_spliced(&mut copy, list, range, piece, by);
     Ok(copy)
 }
 
@@ -214,22 +215,24 @@ pub(crate) fn spliced_copy(
 pub(crate) fn splice_into(
     copy: &mut Vec<Change>,
     list: &[Change],
-    from: usize,
-    to: usize,
+    range: Range<usize>,
     piece: &mut Vec<Change>,
     by: i64,
 )
-    requires ordered { from ≤ to }
-    requires within { to ≤ length list.now }
-    requires room { length list.now + vec_len piece.old ≤ vec_capacity copy.old + (to - from) }
-    requires piece_room { to - from ≤ vec_capacity piece.old }
-    requires ticks { AllTicksFit by (drop to list.now) }
-    ensures changes { copy.new.items ≡ spliced_changes list.now from to piece.old.items by }
-    ensures piece { piece.new.items ≡ slice_range list.now from to }
+    requires ordered { range.start ≤ range.end }
+    requires within { range.end ≤ length list.now }
+    requires room { length list.now + vec_len piece.old ≤ vec_capacity copy.old
+        + (range.end - range.start) }
+    requires piece_room { range.end - range.start ≤ vec_capacity piece.old }
+    requires ticks { AllTicksFit by (drop range.end list.now) }
+    ensures changes { copy.new.items
+        ≡ spliced_changes list.now range.start range.end piece.old.items by }
+    ensures piece { piece.new.items ≡ slice_range list.now range.start range.end }
     ensures capacity { vec_capacity copy.old ≤ vec_capacity copy.new }
     ensures piece_capacity { vec_capacity piece.old ≤ vec_capacity piece.new }
 {
-    fill_spliced(copy, list, from, to, piece.as_slice(), by);
+    let replaced = &list[range.start..range.end];
+    fill_spliced(copy, list, range, piece.as_slice(), by);
     piece.truncate(0);
-    piece.extend_from_slice(&list[from..to]).unwrap();
+    piece.extend_from_slice(replaced).unwrap();
 }

@@ -2,11 +2,10 @@
 //! the one before.
 
 ghost use Rattle.std.specs.Prelude.{◌≡◌, ◌↔◌, ◌+◌, ◌≤◌, IsTrue, MatchOption, map, All, pos, ◌+ℤ◌};
-ghost use Rattle.std.specs.Prelude.{unsigned_abs};
+ghost use Rattle.std.specs.Prelude.{unsigned_abs, length, take, drop};
 ghost use Rattle.std.specs.Int.{w64, FitsUnsigned};
 ghost use Rattle.vcd_core.specs.Splice.{moved_change};
-ghost use Rattle.vcd_core.specs.Value.{all_x};
-ghost use Rattle.vcd_core.specs.Wave.{AreChangesFrom};
+ghost use Rattle.vcd_core.specs.Wave.{IsWave};
 ghost use Rattle.vcd_core.specs.WavePush.{last_value};
 ghost use Rattle.vcd_edit.specs.inside.fitting.Adjacency.{floor_after, MayComeNext, MayFollow};
 ghost use Rattle.vcd_edit.specs.inside.fitting.Adjacency.{JoinToWave, IsValidPiece};
@@ -88,31 +87,30 @@ fn floor_after(changes: &[Change]) -> u64
     }
 }
 
-/// Whether the first changes of a wave, then a list, then later changes that are moved by `by`
-/// ticks, join to a wave up to the end.
-fn join_to_wave(
-    prefix: &[Change],
-    list: &[Change],
-    later: &[Change],
-    by: i64,
-    width: u64,
-    end: u64,
-) -> bool
+/// Whether the changes of a wave with the piece, where the later ones are moved, are a wave up to
+/// the end.
+fn join_to_wave(changes: &[Change], piece: &Piece, width: u64, end: u64) -> bool
     requires least { 1 ≤ width }
     requires most { width ≤ WIDTH_LIMIT }
     requires small { end ≤ END_LIMIT }
-    requires rise { AreChangesFrom 0 (all_x width) prefix.now }
-    ensures { IsTrue result ↔ JoinToWave width end prefix.now list.now later.now by }
+    requires form { IsWave width changes.now }
+    requires ordered { piece.now.from ≤ piece.now.to }
+    requires within { piece.now.to ≤ length changes.now }
+    ensures { IsTrue result ↔ JoinToWave width end (take piece.now.from changes.now)
+        piece.now.changes.items (drop piece.now.to changes.now) piece.now.by }
 {
+    let prefix = &changes[..piece.from];
     if !ends_by(prefix, end) {
         return false;
     }
     let floor = floor_after(prefix);
     let before = last_value(prefix, width);
+    let list = piece.changes.as_slice();
     let Some(next) = floor_and_value_after(floor, before, list, 0, end) else {
         return false;
     };
-    floor_and_value_after(next.0, next.1, later, by, end).is_some()
+    let later = &changes[piece.to..];
+    floor_and_value_after(next.0, next.1, later, piece.by, end).is_some()
 }
 
 /// Whether the piece's range lies within the changes of the wave, and the result is a wave up to
@@ -128,12 +126,5 @@ pub(crate) fn is_valid_piece(piece: &Piece, wave: &Wave, end: u64) -> bool
     if piece.from > piece.to || piece.to > changes.len() {
         return false;
     }
-    join_to_wave(
-        &changes[..piece.from],
-        piece.changes.as_slice(),
-        &changes[piece.to..],
-        piece.by,
-        wave.width(),
-        end,
-    )
+    join_to_wave(changes, piece, wave.width(), end)
 }

@@ -15,7 +15,7 @@ ghost use Rattle.vcd_part.specs.inside.PartCopy.{IsPut};
 
 use super::PartAmender;
 use crate::window::{is_up_to_first, is_within};
-use vcd_copy::InPlace;
+use vcd_copy::{EndedItem, InPlace};
 use vcd_core::{NoMemory, Sink};
 use vcd_text::{Output, TickRange, write_bytes};
 
@@ -53,19 +53,18 @@ impl PartAmender<'_, '_> {
         &mut self,
         output: &mut Output<W>,
         is_text: bool,
-        code: &[u8],
-        space: &[u8],
-        body: &[u8],
+        ended: &EndedItem,
     ) -> Result<(), NoMemory>
         requires { (limit : ℕ) × (before : List Piece) × (p : Piece) × HasSeen self.old before
-            × IsNext limit before p space.now body.now × IsChangeItem p.item is_text code.now }
+            × IsNext limit before p ended.now.space.now ended.now.body.now
+            × IsChangeItem p.item is_text ended.now.code.now }
         ensures written { OnOk result ((limit : ℕ) (before : List Piece) (p : Piece) →
-            HasSeen self.old before → IsNext limit before p space.now body.now →
-            IsChangeItem p.item is_text code.now → Emits W.Sink output.old output.new
+            HasSeen self.old before → IsNext limit before p ended.now.space.now ended.now.body.now →
+            IsChangeItem p.item is_text ended.now.code.now → Emits W.Sink output.old output.new
             ((rules_of self.old.request).in_place before p)) }
         ensures seen { OnOk result ((limit : ℕ) (before : List Piece) (p : Piece) →
-            HasSeen self.old before → IsNext limit before p space.now body.now →
-            IsChangeItem p.item is_text code.now → HasSeen self.new (before ++ p ∷ [])) }
+            HasSeen self.old before → IsNext limit before p ended.now.space.now ended.now.body.now →
+            IsChangeItem p.item is_text ended.now.code.now → HasSeen self.new (before ++ p ∷ [])) }
         ensures same { OnOk result (self.new.request ≡ self.old.request) }
         ensures more { OnErr result (EmitsMore W.Sink output.old output.new) }
     {
@@ -73,11 +72,11 @@ impl PartAmender<'_, '_> {
             return Ok(());
         };
         if is_up_to_first(window, self.tick) {
-            self.codes.hold(is_text, code, body)?;
+            self.codes.hold(is_text, ended.code, ended.body)?;
             return Ok(());
         }
-        let stands = self.is_in_part(window, code);
-        write_change_if(output, &mut self.waiting, stands, space, body);
+        let stands = self.is_in_part(window, ended.code);
+        write_change_if(output, &mut self.waiting, stands, ended.space, ended.body);
         Ok(())
     }
 

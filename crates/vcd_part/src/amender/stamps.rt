@@ -2,13 +2,13 @@
 //! at its tick.
 
 ghost use Rattle.std.specs.Prelude.{◌≡◌, ◌++◌, ◌∷◌, [], ◌&&◌, ℕ, List, OnOk, OnErr, not, true};
-ghost use Rattle.std.specs.Prelude.{if◌then◌else◌, nat_le, nat_lt, Some};
+ghost use Rattle.std.specs.Prelude.{if◌then◌else◌, nat_le, nat_lt, ◌<◌, ◌^◌, Some};
 ghost use Rattle.vcd_core.specs.Decimal.{number_of};
 ghost use Rattle.vcd_text.specs.EmittedText.{Emits, EmitsMore};
 ghost use Rattle.vcd_copy.specs.Copied.{IsShownNext, IsTakenNext};
 ghost use Rattle.vcd_core.specs.declared.capture.ScopeName.{ScopeName};
 ghost use Rattle.vcd_text.specs.Grammar.{VariableDeclaration};
-ghost use Rattle.vcd_text.specs.Items.{stamp};
+ghost use Rattle.vcd_text.specs.Items as items;
 ghost use Rattle.vcd_copy.specs.Pieces.{Piece};
 ghost use Rattle.vcd_copy.specs.declared.copying.amender.AmendableItem.TheVariants as shown;
 ghost use Rattle.vcd_copy.specs.declared.copying.amender.InPlace.TheVariants as places;
@@ -21,7 +21,7 @@ ghost use Rattle.vcd_part.specs.inside.PartCopy.{IsPut};
 use super::PartAmender;
 use crate::code_uses::CodeUses;
 use crate::window::{is_up_to_first, is_within, spell_last_stamp, spell_stamp_in_part};
-use vcd_copy::InPlace;
+use vcd_copy::{InPlace, StampBytes};
 use vcd_core::{NoMemory, Sink};
 use vcd_text::{Output, TickRange, write_bytes};
 
@@ -75,15 +75,8 @@ impl PartAmender<'_, '_> {
         };
         let is_due = is_past_first(window, earlier, tick);
         write_first_if(output, &mut self.waiting, &self.codes, is_due);
-        put_stamp(
-            output,
-            &mut self.waiting,
-            window,
-            earlier,
-            tick,
-            space,
-            body,
-        )
+        let stamp = StampBytes { tick, space, body };
+        put_stamp(output, &mut self.waiting, window, earlier, stamp)
     }
 }
 
@@ -120,22 +113,23 @@ fn put_stamp<W: Sink>(
     waiting: &mut Vec<u8>,
     window: TickRange,
     earlier: u64,
-    tick: u64,
-    space: &[u8],
-    body: &[u8],
+    stamp: StampBytes,
 ) -> Result<(), NoMemory>
-    ensures put { OnOk result ((p : Piece) (digits : List ℕ) → p.item ≡ stamp digits →
-        number_of digits ≡ tick → p.space ≡ space.now → p.body ≡ body.now →
+    requires { stamp.tick < 2 ^ 64 }
+    ensures put { OnOk result ((p : Piece) (digits : List ℕ) → p.item ≡ items.stamp digits →
+        number_of digits ≡ stamp.entry.tick → p.space ≡ stamp.entry.space.now →
+        p.body ≡ stamp.entry.body.now →
         IsPut W.Sink output.old output.new waiting.old.items waiting.new.items
-        (if spec.is_within window tick then spec.stamp_in_part window p tick ∷ []
-        else (if nat_le earlier window.last && nat_lt window.last tick
+        (if spec.is_within window stamp.entry.tick
+        then spec.stamp_in_part window p stamp.entry.tick ∷ []
+        else (if nat_le earlier window.last && nat_lt window.last stamp.entry.tick
         then spec.last_stamp window earlier else []))) }
     ensures more { OnErr result (EmitsMore W.Sink output.old output.new) }
 {
-    if is_within(window, tick) {
-        return put_within(output, waiting, window, tick, space, body);
+    if is_within(window, stamp.tick) {
+        return put_within(output, waiting, window, stamp);
     }
-    if earlier <= window.last && window.last < tick {
+    if earlier <= window.last && window.last < stamp.tick {
         spell_last_stamp(waiting, window, earlier)?;
     }
     Ok(())
@@ -146,22 +140,22 @@ fn put_within<W: Sink>(
     output: &mut Output<W>,
     waiting: &mut Vec<u8>,
     window: TickRange,
-    tick: u64,
-    space: &[u8],
-    body: &[u8],
+    stamp: StampBytes,
 ) -> Result<(), NoMemory>
-    requires { spec.is_within window tick ≡ true }
-    ensures put { OnOk result ((p : Piece) (digits : List ℕ) → p.item ≡ stamp digits →
-        number_of digits ≡ tick → p.space ≡ space.now → p.body ≡ body.now →
+    requires within { spec.is_within window stamp.tick ≡ true }
+    requires fits { stamp.tick < 2 ^ 64 }
+    ensures put { OnOk result ((p : Piece) (digits : List ℕ) → p.item ≡ items.stamp digits →
+        number_of digits ≡ stamp.entry.tick → p.space ≡ stamp.entry.space.now →
+        p.body ≡ stamp.entry.body.now →
         IsPut W.Sink output.old output.new waiting.old.items waiting.new.items
-        (spec.stamp_in_part window p tick ∷ [])) }
+        (spec.stamp_in_part window p stamp.entry.tick ∷ [])) }
     ensures more { OnErr result (EmitsMore W.Sink output.old output.new) }
 {
     waiting.clear();
-    if tick == 0 {
-        write_bytes(output, space);
-        write_bytes(output, body);
+    if stamp.tick == 0 {
+        write_bytes(output, stamp.space);
+        write_bytes(output, stamp.body);
         return Ok(());
     }
-    spell_stamp_in_part(waiting, window, tick, space, body)
+    spell_stamp_in_part(waiting, window, stamp.tick, stamp.space, stamp.body)
 }

@@ -15,7 +15,7 @@ use Rattle.vcd_script.specs.Script.{script_lines}
 use Rattle.vcd_script.specs.declared.replies.reply.Reply.{Reply}
 use Rattle.vcd_script.specs.declared.running.run_error.RunError.{RunError}
 use Rattle.vcd_script.specs.declared.running.run_error.RunError.TheVariants as run_errors
-use Rattle.vcd_script.specs.inside.running.RunLines.{StopsAtReply, StopsAtLine}
+use Rattle.vcd_script.specs.inside.running.RunLines.{StopsAtReply}
 
 -- ==== a run of lines, seen from a line in it
 
@@ -162,7 +162,8 @@ module _ (replies texts rest : List (List ℕ)) (text : List ℕ) (before betwee
 pub line_stops : {skipped number refused bytes : ℕ} {lines all left : List (List ℕ)} {line : List ℕ} {old now : Machine}
     {before between : Option (List ℕ)} →
     RepliesSoFar skipped lines old number all now refused bytes before between → all ≡ line ∷ left →
-    (after : Option (List ℕ)) (e : RunError) → StopsAtLine skipped (number + 1) line now bytes between after e
+    (after : Option (List ℕ)) (e : RunError)
+    → StopsAtReply (number + 1) (reply_on skipped (number + 1) line now) bytes between after e
     → StopsInLines skipped lines old before after e
 unfolding line_replies
 line_stops {skipped} {number} {bytes = bytes} {lines} {left = left} {line} {old} {now} {before} {between} so parts after

@@ -1,60 +1,67 @@
 //! The lines of a script, run one after another.
 
 ghost use Rattle.std.specs.Prelude.{◌≡◌, ◌≤◌, ◌<◌, ◌^◌, ℕ, false, true, length, take, IfOk, IfErr};
-ghost use Rattle.std.specs.Prelude.{OnOk};
+ghost use Rattle.std.specs.Prelude.{OnOk, Ok, List};
 ghost use Rattle.std.specs.Io.KnownBytes.{Appends, Keeps};
 ghost use Rattle.vcd_script.specs.Script.{script_lines};
 ghost use Rattle.vcd_script.specs.LineRunEnds.{HasFailedAt, RunsLines, EndsAtLine, StopsInLines};
 ghost use Rattle.vcd_script.specs.ObservedLines.{SeesLines};
-ghost use Rattle.vcd_script.specs.SessionLines.{AnswersLine};
-ghost use Rattle.vcd_script.specs.inside.running.RunLines.{StopsAtReply, StopsAtLine};
+ghost use Rattle.vcd_script.specs.inside.running.RunLines.{StopsAtReply};
 
-use crate::replies::{Reply, answer_line};
+use crate::replies::{MemoryResult, Reply, answer_line};
 use crate::running::{LineObserver, RunError};
 use crate::script::split_line;
 use std::alloc::Global;
 use vcd_core::{Sink, write_all};
 use vcd_journal::Session;
 
+/// What a run of lines takes beside its session.
+#[derive(Clone, Copy)]
+pub struct RunInput<'s> {
+    pub script: &'s [u8],
+    /// How many variables of the capture's file were left out.
+    pub skipped: u64,
+}
+
 /// Runs the lines of a script, in order, each on the current capture. The reply to a line is
 /// written before the next line is read. Then the replies are flushed. Returns how many lines were
-/// refused. `skipped` is how many variables of the file were left out. The observer is shown each
-/// line first.
+/// refused. The observer is shown each line first.
 ///
 /// The first error ends it: memory is refused at a line, after which the replies are flushed too,
 /// or the writer of the replies fails. It holds the reply of one line at a time.
 pub fn run_lines<P: Sink, O: LineObserver>(
     alloc: Global,
     session: &mut Session,
-    skipped: u64,
-    script: &[u8],
+    input: &RunInput<'_>,
     replies: &mut P,
     observer: &mut O,
 ) -> Result<u64, RunError>
     requires ready { P.has_failed replies.old ≡ false }
-    requires short { length script.now < 2 ^ 60 }
+    requires short { length input.now.script.now < 2 ^ 60 }
     ensures ran { IfOk result (λ refused.
-        RunsLines skipped (script_lines script.now) session.old session.new refused
-        (P.taken replies.old) (P.taken replies.new)) }
+        RunsLines input.now.skipped (script_lines input.now.script.now) session.old session.new
+        refused (P.taken replies.old) (P.taken replies.new)) }
     ensures not_failed { OnOk result (P.has_failed replies.new ≡ false) }
     ensures flushed { OnOk result (P.is_flushed replies.new ≡ true) }
     ensures fault { IfErr result EndsAtLine }
     ensures failed { IfErr result (HasFailedAt (P.has_failed replies.new)
         (P.is_flushed replies.new)) }
-    ensures stopped { IfErr result (StopsInLines skipped (script_lines script.now) session.old
-        (P.taken replies.old) (P.taken replies.new)) }
+    ensures stopped { IfErr result (StopsInLines input.now.skipped
+        (script_lines input.now.script.now) session.old (P.taken replies.old)
+        (P.taken replies.new)) }
     // whatever the result
     ensures observed { (count : ℕ) × SeesLines O.sees 1 session.old
-        (take count (script_lines script.now)) observer.old observer.new }
+        (take count (script_lines input.now.script.now)) observer.old observer.new }
 {
-    let mut rest = script;
+    let mut rest = input.script;
     let mut number = 0u64;
     let mut refused = 0u64;
     let mut written = 0u128;
     while let Some((line, following)) = split_line(rest) {
         number += 1;
         observer.observe(session.capture(), number, line);
-        let reply = run_line(alloc, session, skipped, number, line, replies, written)?;
+        let answer = answer_line(alloc, session, input.skipped, number, line);
+        let reply = write_answer(answer, number, replies, written)?;
         refused += u64::from(reply.is_refused);
         written += reply.text.len() as u128;
         rest = following;
@@ -65,32 +72,29 @@ pub fn run_lines<P: Sink, O: LineObserver>(
     }
 }
 
-/// Runs the line of this number, and writes its reply after the `written_before` bytes of those
-/// before. Gives the reply.
-fn run_line<P: Sink>(
-    alloc: Global,
-    session: &mut Session,
-    skipped: u64,
+/// Writes the reply to the line of this number after the `written_before` bytes of those before.
+/// Gives the reply.
+fn write_answer<P: Sink>(
+    answer: MemoryResult<Reply>,
     number: u64,
-    line: &[u8],
     replies: &mut P,
     written_before: u128,
 ) -> Result<Reply, RunError>
     requires ready { P.has_failed replies.old ≡ false }
     requires counted { 1 ≤ number }
     requires count_fits { written_before < 2 ^ 127 }
-    ensures answers { IfOk result (λ reply.
-        AnswersLine skipped number line.now session.old session.new reply) }
+    ensures same { IfOk result (λ reply. answer ≡ Ok reply) }
     ensures written { IfOk result (λ reply.
         Appends (P.taken replies.old) (P.taken replies.new) reply.text.items) }
     ensures not_failed { OnOk result (P.has_failed replies.new ≡ false) }
     ensures fault { IfErr result EndsAtLine }
     ensures failed { IfErr result (HasFailedAt (P.has_failed replies.new)
         (P.is_flushed replies.new)) }
-    ensures stopped { IfErr result (StopsAtLine skipped number line.now session.old written_before
-        (P.taken replies.old) (P.taken replies.new)) }
+    ensures stopped { IfErr result (λ e. (text : List ℕ)
+        → IfOk answer (λ reply. reply.text.items ≡ text) → StopsAtReply number text written_before
+        (P.taken replies.old) (P.taken replies.new) e) }
 {
-    match answer_line(alloc, session, skipped, number, line) {
+    match answer {
         Ok(reply) => {
             write_reply(reply.text.as_slice(), replies, written_before)?;
             Ok(reply)

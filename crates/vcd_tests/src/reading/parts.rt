@@ -95,35 +95,20 @@ fn answer_of(alloc: Global, file: &[u8], piece: usize, choice: &OfKind) -> Resul
     }
 }
 
-/// Stops unless a file has this answer for the signals of a kind at some ticks.
-fn check_answer(
-    rt: &impl Abort,
-    alloc: Global,
-    file: &[u8],
-    piece: usize,
-    asked: (&str, TickRange),
-    answer: &str,
-) -> Result<(), Fail> {
-    let (kind, ticks) = asked;
-    let choice = OfKind {
-        kind: kind.as_bytes(),
-        ticks,
-    };
-    let found = answer_of(alloc, file, piece, &choice)?;
-    let wanted = file_of(alloc, answer)?;
-    check_holds(rt, found.as_bytes() == wanted.as_slice(), answer);
-    Ok(())
-}
-
 /// Stops unless a row's file has its part.
 fn check_part(rt: &impl Abort, alloc: Global, row: &str) -> Result<(), Fail> {
     let (asked, texts) = row.split_once(": ").ok_or("no kind")?;
     let (kind, ticks) = asked.split_once(' ').ok_or("no ticks")?;
     let (file, answer) = texts.split_once(" => ").ok_or("no text")?;
     let file = file_of(alloc, file)?;
-    let ticks = ticks_of(ticks)?;
+    let wanted = file_of(alloc, answer)?;
+    let choice = OfKind {
+        kind: kind.as_bytes(),
+        ticks: ticks_of(ticks)?,
+    };
     for piece in PIECES {
-        check_answer(rt, alloc, file.as_slice(), piece, (kind, ticks), answer)?;
+        let found = answer_of(alloc, file.as_slice(), piece, &choice)?;
+        check_holds(rt, found.as_bytes() == wanted.as_slice(), answer);
     }
     Ok(())
 }
@@ -143,14 +128,11 @@ fn part_of_more_signals_than_a_capture_may_have(rt: HostRuntime) -> Result<(), F
     let mut file = Vec::new(rt.alloc());
     append_copies(&mut file, b"$var wire 1 ! a $end\n", SIGNAL_LIMIT)?;
     file.extend_from_slice(b"$var reg 1 ! b $end\n$enddefinitions $end\n1!")?;
-    let all = TickRange { first: 0, last: 9 };
-    let refused = "65537 TooManySignals";
-    check_answer(
-        &rt,
-        rt.alloc(),
-        file.as_slice(),
-        4096,
-        ("reg", all),
-        refused,
-    )
+    let choice = OfKind {
+        kind: b"reg",
+        ticks: TickRange { first: 0, last: 9 },
+    };
+    let found = answer_of(rt.alloc(), file.as_slice(), 4096, &choice)?;
+    assert!(rt; found.as_bytes() == b"65537 TooManySignals".as_slice());
+    Ok(())
 }

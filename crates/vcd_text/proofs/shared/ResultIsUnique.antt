@@ -172,12 +172,6 @@ accepts_ends : (limit : ℕ) (words : List WordOnLine) (state : ParseState) → 
     Ends limit (word_texts words) state []
 accepts_ends limit words state a = grind (arith, append-nil)
 
--- accepted words have one state
-pub one_state : (limit : ℕ) (words : List WordOnLine) (c d : ParseState) → Accepts limit words c → Accepts limit words d
-    → c ≡ d
-one_state limit words c d a b =
-    (one_end limit (word_texts words) c d [] [] (accepts_ends limit words c a) (accepts_ends limit words d b)).0
-
 stops_ends : (limit : ℕ) (words : List WordOnLine) (s : Stops limit words)
     → Ends limit (word_texts words) (state_after (initial_state limit) s.items) s.begun
 stops_ends limit words s = record {

@@ -19,13 +19,13 @@ use crate::reading::digits::is_binary_digit;
 use crate::reading::keywords::{is_declaration_word, is_dump_word};
 use crate::reading::parser::{OpenItem, Parser};
 use crate::reading::ticks_and_sizes::tick_of;
-use std::alloc::Global;
+use crate::reading::variables::CodeChange;
 
 impl Parser {
     /// Takes a word between two changes, which is on this line. By its first byte it is a stamp, a
     /// command, or the first word of a change of a value. Any other word is `BadChange`.
     #[inline(always)]
-    pub fn take_body_word(&mut self, alloc: Global, text: &[u8], line: u64) -> Result<(), Fault>
+    pub fn take_body_word(&mut self, text: &[u8], line: u64) -> Result<(), Fault>
         requires between { self.old.item ≡ items.Nothing }
         requires in_body { self.old.in_body ≡ true }
         requires reading { IsUnderway self.old }
@@ -35,7 +35,7 @@ impl Parser {
         match text {
             [b'#', digits @ ..] => self.stamp(digits),
             [b'$', ..] => self.take_command(text),
-            [first, rest @ ..] => self.take_value_word(alloc, *first, rest, line),
+            [first, rest @ ..] => self.take_value_word(*first, rest, line),
             [] => Err(Fault::BadChange),
         }
     }
@@ -81,13 +81,7 @@ impl Parser {
 
     /// Takes the first word of a change of a value: this byte, and the rest.
     #[inline(always)]
-    fn take_value_word(
-        &mut self,
-        alloc: Global,
-        first: u8,
-        rest: &[u8],
-        line: u64,
-    ) -> Result<(), Fault>
+    fn take_value_word(&mut self, first: u8, rest: &[u8], line: u64) -> Result<(), Fault>
         requires between { self.old.item ≡ items.Nothing }
         requires in_body { self.old.in_body ≡ true }
         requires reading { IsUnderway self.old }
@@ -97,7 +91,7 @@ impl Parser {
         if is_vector_prefix(first) {
             self.take_vector_value(rest, line)
         } else if is_binary_digit(first) {
-            self.take_scalar_change(alloc, first, rest)
+            self.take_scalar_change(first, rest)
         } else if is_real_or_string_prefix(first) {
             self.take_real_or_string(line);
             Ok(())
@@ -109,7 +103,7 @@ impl Parser {
     /// Sets a code to the value that a binary digit writes. The error is `BadChange` if there is no
     /// code, and `UnknownCode` if the code was not declared.
     #[inline(never)]
-    fn take_scalar_change(&mut self, alloc: Global, digit: u8, code: &[u8]) -> Result<(), Fault>
+    fn take_scalar_change(&mut self, digit: u8, code: &[u8]) -> Result<(), Fault>
         requires between { self.old.item ≡ items.Nothing }
         requires in_body { self.old.in_body ≡ true }
         requires reading { IsUnderway self.old }
@@ -122,14 +116,12 @@ impl Parser {
         }
         let digits = [digit];
         let silent = self.silent.as_slice();
-        self.variables.change(
-            alloc,
+        let change = CodeChange {
             code,
-            self.tick,
-            digits.as_slice(),
-            &self.part,
-            silent,
-        )
+            tick: self.tick,
+            digits: digits.as_slice(),
+        };
+        self.variables.change(&change, &self.part, silent)
     }
 
     /// Begins a change by a binary number, and keeps its digits.
@@ -163,16 +155,19 @@ impl Parser {
     /// `ValueTooLong` if they are too many.
     #[tactic(auto, using(crate::proofs::reading::changes::ChangeWords::ends_vector))]
     #[inline(never)]
-    pub fn take_vector_code(&mut self, alloc: Global, code: &[u8]) -> Result<(), Fault>
+    pub fn take_vector_code(&mut self, code: &[u8]) -> Result<(), Fault>
         requires item { self.old.item ≡ items.Vector }
         requires reading { IsUnderway self.old }
         ensures { (line : ℕ) → WordResult self.old (word_on code.now line) result self.new }
     {
         self.item = OpenItem::Nothing;
-        let digits = self.digits.as_slice();
         let silent = self.silent.as_slice();
-        self.variables
-            .change(alloc, code, self.tick, digits, &self.part, silent)
+        let change = CodeChange {
+            code,
+            tick: self.tick,
+            digits: self.digits.as_slice(),
+        };
+        self.variables.change(&change, &self.part, silent)
     }
 
     /// Takes the code of a change of a real number or a string, which changes nothing. The error is

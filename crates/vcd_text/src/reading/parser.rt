@@ -148,11 +148,11 @@ impl Parser {
     {
         // tested first, as nearly all words are between changes
         if self.in_body && self.item == OpenItem::Nothing {
-            return self.take_body_word(alloc, text, line);
+            return self.take_body_word(text, line);
         }
         match self.item {
             OpenItem::Nothing => self.begin_declaration(text),
-            OpenItem::Vector => self.take_vector_code(alloc, text),
+            OpenItem::Vector => self.take_vector_code(text),
             OpenItem::RealOrString => self.take_real_or_string_code(text),
             _ if text == b"$end".as_slice() => self.close(alloc),
             _ => self.continue_item(alloc, text),

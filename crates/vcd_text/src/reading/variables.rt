@@ -17,6 +17,7 @@ use crate::reading::code_targets::{CodeTarget, CodeTargets};
 use crate::reading::declared_signals::Declarations;
 use crate::reading::log::{ExpectedRoom, LoggedChange};
 use crate::reading::scopes::{ScopePlace, Scopes};
+pub use assigning::CodeChange;
 pub use choosing::{remaining_signals, silent_variables};
 use std::alloc::Global;
 use std::mem::replace;

@@ -39,10 +39,11 @@ pub fn write_transitions<W: Sink>(
         if output.writer.failed() {
             return;
         }
-        let count = fill_window(window, signals, from, most.min(end - from + 1), end);
+        let count = fill_window(window, signals, from, most, end);
         let keys = window.keys.as_slice();
+        let filled = WindowKeys { from, keys };
         let start_cursors = window.start_cursors.as_mut_slice();
-        last = write_keys(output, signals, keys, start_cursors, from, last);
+        last = write_keys(output, signals, filled, start_cursors, last);
         most = next_window_ticks(count, window.keys.len(), window.keys.capacity());
         from += count;
     }
@@ -78,30 +79,37 @@ fn next_window_ticks(count: u64, used: usize, room: usize) -> u64
     count
 }
 
+/// The keys of a window, whose first tick is `from`.
+#[derive(Clone, Copy)]
+struct WindowKeys<'k> {
+    from: u64,
+    keys: &'k [u64],
+}
+
 /// Writes the changes of keys, after the text up to tick `last`. Returns the last tick. The
 /// search for the next change of each signal begins at its cursor.
 #[tactic(auto, using(crate::proofs::writing::window::WindowOrder::last_written))]
 fn write_keys<W: Sink>(
     output: &mut Output<W>,
     signals: &[Signal],
-    keys: &[u64],
+    window: WindowKeys<'_>,
     start_cursors: &mut [Cursor],
-    from: u64,
     last: u64,
 ) -> u64
     requires few { length signals.now ≤ SIGNAL_LIMIT }
-    requires keys { All (IsKey from (length signals.now)) keys.now }
+    requires keys { All (IsKey window.from (length signals.now)) window.keys.now }
     requires start_cursors { length start_cursors.old ≡ length signals.now }
     ensures text { Emits W.Sink output.old output.new
         (flat_map item_line (transition_items (map signal_contents signals.now) last
-        (transitions_of from keys.now))) }
-    ensures last { result ≡ last_tick last (transitions_of from keys.now) }
+        (transitions_of window.entry.from window.entry.keys.now))) }
+    ensures last { result
+        ≡ last_tick last (transitions_of window.entry.from window.entry.keys.now) }
     ensures start_cursors { length start_cursors.new ≡ length start_cursors.old }
 {
     let mut last = last;
-    for (k, key) in keys.iter().enumerate() {
-        prefetch_changes(signals, start_cursors, keys, k);
-        let tick = from + *key / POSITIONS;
+    for (k, key) in window.keys.iter().enumerate() {
+        prefetch_changes(signals, start_cursors, window.keys, k);
+        let tick = window.from + *key / POSITIONS;
         let position = (*key % POSITIONS) as usize;
         let index = start_cursors[position].index;
         write_new_stamp(output, last, tick);

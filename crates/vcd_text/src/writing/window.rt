@@ -14,6 +14,7 @@ ghost use Rattle.vcd_text.specs.inside.writing.Window.{IsKey, IsReady, transitio
 use super::cursors::{Cursor, first_changes, following_change};
 use std::alloc::Global;
 use std::mem::swap;
+use std::ops::Range;
 use vcd_core::{NoMemory, SIGNAL_LIMIT, Signal, Wave};
 
 /// The limit of the positions in a key. Positions and ticks fit together in 64 bits.
@@ -62,29 +63,28 @@ impl Window {
     }
 }
 
-/// Fills the window with the ticks from `from` on, at most `most`. It halves that number until all
-/// keys fit, and returns it.
+/// Fills the window with the ticks from `from` on, at most `most` of those up to the end. It halves
+/// that number until all keys fit, and returns it.
 pub fn fill_window(window: &mut Window, signals: &[Signal], from: u64, most: u64, end: u64) -> u64
     requires ready { IsReady end from signals.now window.old }
     requires some { 1 ≤ most }
-    requires most { from + most ≤ END_LIMIT + 1 }
+    requires within { from ≤ end }
+    requires end { end ≤ END_LIMIT }
     ensures some { 1 ≤ result }
-    ensures most { result ≤ most }
+    ensures within { from + result ≤ end + 1 }
     ensures all { transitions_of from window.new.keys.items
         ≡ transitions_from 0 (map signal_contents signals.now) from result }
     ensures keys { All (IsKey from (length signals.now)) window.new.keys.items }
     ensures ready { IsReady end (from + result) signals.now window.new }
 {
     swap(&mut window.cursors, &mut window.start_cursors);
-    let mut count = most;
+    let mut count = most.min(end - from + 1);
     while !list_window(
         &mut window.keys,
         signals,
         window.start_cursors.as_slice(),
         window.cursors.as_mut_slice(),
-        from,
-        from + count,
-        end,
+        from..from + count,
     ) {
         count /= 2;
     }
@@ -100,36 +100,27 @@ fn list_window(
     signals: &[Signal],
     start_cursors: &[Cursor],
     cursors: &mut [Cursor],
-    from: u64,
-    to: u64,
-    end: u64,
+    ticks: Range<u64>,
 ) -> bool
     requires few { length signals.now ≤ SIGNAL_LIMIT }
-    requires sound { All (IsSoundSignal end) (map signal_contents signals.now) }
-    requires start_cursors { AreNext from signals.now start_cursors.now }
+    requires start_cursors { AreNext ticks.start signals.now start_cursors.now }
     requires next { length cursors.old ≡ length signals.now }
-    requires order { from ≤ to }
-    requires end { to ≤ END_LIMIT + 1 }
-    ensures all { result ≡ true → transitions_of from keys.new.items
-        ≡ unsorted_window from to 0 (map signal_contents signals.now) }
-    ensures keys { All (IsKey from (length signals.now)) keys.new.items }
-    ensures next { result ≡ true → AreNext to signals.now cursors.new }
+    requires order { ticks.start ≤ ticks.end }
+    requires end { ticks.end ≤ END_LIMIT + 1 }
+    ensures all { result ≡ true → transitions_of ticks.start keys.new.items
+        ≡ unsorted_window ticks.start ticks.end 0 (map signal_contents signals.now) }
+    ensures keys { All (IsKey ticks.start (length signals.now)) keys.new.items }
+    ensures next { result ≡ true → AreNext ticks.end signals.now cursors.new }
     ensures next_count { length cursors.new ≡ length signals.now }
-    ensures no_room_or_too_far { result ≡ false → (from + TICKS_IN_KEY < to)
-        ⊎ (vec_capacity keys.old
-        < length (unsorted_window from to 0 (map signal_contents signals.now))) }
+    ensures no_room_or_too_far { result ≡ false → (ticks.start + TICKS_IN_KEY < ticks.end)
+        ⊎ (vec_capacity keys.old < length
+        (unsorted_window ticks.start ticks.end 0 (map signal_contents signals.now))) }
     ensures room { vec_capacity keys.old ≤ vec_capacity keys.new }
 {
     keys.clear();
     for (position, signal) in signals.iter().enumerate() {
-        match list_signal(
-            keys,
-            position,
-            &signal.wave,
-            start_cursors[position],
-            from,
-            to,
-        ) {
+        let first = start_cursors[position];
+        match list_signal(keys, position, &signal.wave, first, ticks.start..ticks.end) {
             Some(next) => cursors[position] = next,
             None => return false,
         }
@@ -137,7 +128,7 @@ fn list_window(
     true
 }
 
-/// Adds the keys of one signal's changes before `to`. Returns its next change, or none if a key
+/// Adds the keys of one signal's changes at these ticks. Returns its next change, or none if a key
 /// does not fit. If no change is in the window, it reads none.
 #[tactic(auto, using(crate::proofs::writing::cursors::NextChange::window_steps))]
 fn list_signal(
@@ -145,33 +136,33 @@ fn list_signal(
     position: usize,
     wave: &Wave,
     next: Cursor,
-    from: u64,
-    to: u64,
+    ticks: Range<u64>,
 ) -> Option<Cursor>
     requires position { position < POSITIONS }
-    requires next { IsNext from from wave.now.changes next }
-    requires order { from ≤ to }
-    requires end { to ≤ END_LIMIT + 1 }
-    ensures all { IfSome result (λ _. transitions_of from keys.new.items
-        ≡ transitions_of from keys.old.items
-        ++ window_of_signal from to position wave.now.changes) }
-    ensures keys { (count : ℕ) → position < count →
-        All (IsKey from count) keys.old.items → All (IsKey from count) keys.new.items }
-    ensures next { IfSome result (λ later. IsNext to to wave.now.changes later) }
-    ensures no_room_or_too_far { IfNone result ((from + TICKS_IN_KEY < to) ⊎ (vec_capacity keys.old
-        < length keys.old.items + length (window_of_signal from to position wave.now.changes))) }
+    requires next { IsNext ticks.start ticks.start wave.now.changes next }
+    requires order { ticks.start ≤ ticks.end }
+    requires end { ticks.end ≤ END_LIMIT + 1 }
+    ensures all { IfSome result (λ _. transitions_of ticks.start keys.new.items
+        ≡ transitions_of ticks.start keys.old.items
+        ++ window_of_signal ticks.start ticks.end position wave.now.changes) }
+    ensures keys { (count : ℕ) → position < count → All (IsKey ticks.start count) keys.old.items
+        → All (IsKey ticks.start count) keys.new.items }
+    ensures next { IfSome result (λ later. IsNext ticks.end ticks.end wave.now.changes later) }
+    ensures no_room_or_too_far { IfNone result ((ticks.start + TICKS_IN_KEY < ticks.end)
+        ⊎ (vec_capacity keys.old < length keys.old.items
+        + length (window_of_signal ticks.start ticks.end position wave.now.changes))) }
     ensures room { vec_capacity keys.old ≤ vec_capacity keys.new }
 {
     let changes = wave.changes();
     let mut next = next;
-    while next.tick < to {
+    while next.tick < ticks.end {
         if keys.len() >= keys.capacity() {
             return None;
         }
-        if next.tick - from >= TICKS_IN_KEY {
+        if next.tick - ticks.start >= TICKS_IN_KEY {
             return None;
         }
-        push_in_room(keys, key_of(next.tick - from, position));
+        push_in_room(keys, key_of(next.tick - ticks.start, position));
         next = following_change(changes, next);
     }
     Some(next)

@@ -87,14 +87,14 @@ returns-then-is_empty-clause-amended g c = on_ok_weaker c.copy.result
     let (small, text, copy, appends) = is in (
       small,
       text,
-      uncut c.args.limit c.args.cuts.now _ _ c.in_ok-amender.ensures.1 c.args.mark file text
+      uncut c.args.limit c.args.edits.cuts.now _ _ c.in_ok-amender.ensures.1 c.args.edits.mark file text
           (grind (arith, c.if-is_empty.true, c.is_empty.ensures, nat_tests)) copy,
       appends,
     ))) c.copy.ensures.copied
 
 pub returns-then-is_empty-clause-begun : goal.returns-then-is_empty-clause-begun
 returns-then-is_empty-clause-begun g c = begun_as _ _ _ _ _ _ _ c.copy.result (λ file text copy.
-    uncut c.args.limit c.args.cuts.now _ _ c.in_ok-amender.ensures.1 c.args.mark file text
+    uncut c.args.limit c.args.edits.cuts.now _ _ c.in_ok-amender.ensures.1 c.args.edits.mark file text
     (grind (arith, c.if-is_empty.true, c.is_empty.ensures, nat_tests)) copy) c.copy.ensures.begun
 
 pub returns-clause-amended : goal.returns-clause-amended
@@ -103,14 +103,14 @@ returns-clause-amended g c = on_ok_weaker c.copy-2.result
     let (small, text, copy, appends) = is in (
       small,
       text,
-      cut c.args.limit c.args.cuts.now _ _ c.in_ok-amender-2.ensures.1 c.args.mark file text
+      cut c.args.limit c.args.edits.cuts.now _ _ c.in_ok-amender-2.ensures.1 c.args.edits.mark file text
           c.in_ok-amender-2.amender.walk c.in_ok-amender-2.ensures.2 copy,
       appends,
     ))) c.copy-2.ensures.copied
 
 pub returns-clause-begun : goal.returns-clause-begun
 returns-clause-begun g c = begun_as _ _ _ _ _ _ _ c.copy-2.result (λ file text copy.
-    cut c.args.limit c.args.cuts.now _ _ c.in_ok-amender-2.ensures.1 c.args.mark file text
+    cut c.args.limit c.args.edits.cuts.now _ _ c.in_ok-amender-2.ensures.1 c.args.edits.mark file text
     c.in_ok-amender-2.amender.walk c.in_ok-amender-2.ensures.2 copy) c.copy-2.ensures.begun
 
 pub returns-clause-ended : goal.returns-clause-ended

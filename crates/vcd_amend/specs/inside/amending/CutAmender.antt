@@ -41,9 +41,9 @@ pub record HasWritten (m : CutAmender) (sent held : List Piece) (s : ParseState)
   pub holds : ArePieces (last_held m.held.items) held
   pub lasting : (code : List ℕ) → (code_target m.variables code).lasts ≡ lasts s code
   pub kept : (code : List ℕ) → (code_target m.variables code).is_kept ≡ has_kept_variable s code
-  pub is_cut : m.is_cut ≡ cut_of m s.tick
-  pub tick : m.tick ≡ new_tick (cut_of m) s.tick
-  pub behind : (state_of_pieces 0 sent).tick ≤ m.tick
+  pub is_cut : m.last.is_cut ≡ cut_of m s.tick
+  pub tick : m.last.tick ≡ new_tick (cut_of m) s.tick
+  pub behind : (state_of_pieces 0 sent).tick ≤ m.last.tick
   pub scopes : (state_of_pieces 0 sent).scopes ≡ s.scopes
 
 -- it has seen these pieces of the file
@@ -57,4 +57,5 @@ cut_rules_of m = retimed_rules (cut_of m) (rules_of m.inner)
 
 -- the held changes that are written before a tick, if it is past the last one
 abbrev pub released_before : CutAmender → (tick : ℕ) → (held : List Piece) → List Piece
-released_before m tick held = if nat_lt m.tick tick then released m.is_cut m.tick held else []
+released_before m tick held = if nat_lt m.last.tick tick then released m.last.is_cut m.last.tick
+    held else []

@@ -8,6 +8,7 @@ use Rattle.vcd_copy.specs.Pieces.{Piece}
 use Rattle.vcd_text.specs.inside.reading.CodeTargets.{code_target}
 use Rattle.vcd_amend.specs.Retimed.{ChangeKey, digits_key, text_key, change_key}
 use Rattle.vcd_copy.specs.Pieces.{stamp_line}
+use Rattle.vcd_amend.specs.declared.amending.held_changes.ChangeBytes.{ChangeBytes}
 use Rattle.vcd_amend.specs.declared.amending.held_changes.HeldChange.{HeldChange}
 use Rattle.vcd_amend.specs.declared.amending.held_changes.SeenCodes.{SeenCodes}
 
@@ -59,6 +60,10 @@ pub record IsChangePiece (p : Piece) (is_text : Bool) (code space body : List �
   pub key : change_key p.item ≡ Some (key_of is_text code)
   pub space_is : p.space ≡ space
   pub body_is : p.body ≡ body
+
+-- a piece is this change
+abbrev pub IsGivenChange : Piece → ChangeBytes → Type 0
+IsGivenChange p c = IsChangePiece p c.is_text c.code.now c.space.now c.body.now
 
 -- these pieces are these changes, one after another
 abbrev pub ArePieces : List HeldChange → List Piece → Type 0

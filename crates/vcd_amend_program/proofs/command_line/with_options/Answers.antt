@@ -13,9 +13,11 @@ returns c =
     ∙ ap₂ with_rule two c.output_option.ensures.rule in
     let four = c.in_ok-arg-4.ensures.shape c.flag.ensures.local ∙ ap₂ with_rule three c.flag.ensures.rule in
     let five = c.in_ok-arg-5.ensures.shape c.flag-2.ensures.local ∙ ap₂ with_rule four c.flag-2.ensures.rule in
-    let six = c.in_ok-arg-6.ensures.shape c.depth_option.ensures.local
-    ∙ ap₂ with_rule five c.depth_option.ensures.rule in
-    let seven = c.in_ok-arg-7.ensures.shape c.quiet_option.ensures.local
-    ∙ ap₂ with_rule six c.quiet_option.ensures.rule in
-    IfOk-weaker c.arg-8.result _ _ (λ d added. added.shape c.capture_argument.ensures.local
-    ∙ ap₂ with_rule seven c.capture_argument.ensures.rule) c.arg-8.ensures
+    let six = c.in_ok-arg-6.ensures.shape c.value_option.ensures.local
+    ∙ ap₂ with_rule five c.value_option.ensures.rule in
+    let seven = c.in_ok-arg-7.ensures.shape c.depth_option.ensures.local
+    ∙ ap₂ with_rule six c.depth_option.ensures.rule in
+    let eight = c.in_ok-arg-8.ensures.shape c.quiet_option.ensures.local
+    ∙ ap₂ with_rule seven c.quiet_option.ensures.rule in
+    IfOk-weaker c.arg-9.result _ _ (λ d added. added.shape c.capture_argument.ensures.local
+    ∙ ap₂ with_rule eight c.capture_argument.ensures.rule) c.arg-9.ensures

@@ -9,8 +9,8 @@ use Rattle.vcd_amend_run.proofs.dry_running.dry_run.Goals as goal
 pub returns-in-Ok-cuts : goal.returns-in-Ok-cuts
 returns-in-Ok-cuts c =
     let found = found_in_lines (contents c.args.outline) c.args.skipped c.args.depth (script_lines c.args.script.now)
-    c.in-Ok.session c.hear_lines.new.session c.in-Ok.history c.hear_lines.new.history c.deref_mut.result.now
-    c.hear_lines.new.heard c.in-Ok.ensures.session c.in-Ok.ensures.history
+    c.in-Ok.state.session c.hear_lines.new.state.session c.in-Ok.state.history c.hear_lines.new.state.history
+    c.deref_mut.result.now c.hear_lines.new.heard c.in-Ok.ensures.session c.in-Ok.ensures.history
     (c.deref_mut.ensures.value ∙ c.in-Ok.ensures.heard) c.in_ok-hear_lines.ensures.machine
     c.in_ok-hear_lines.ensures.notes c.in_ok-hear_lines.ensures.heard in
     let heard : c.found.result.heard.items ≡ c.hear_lines.new.heard = ap (λ v. v.items) c.found.ensures.heard

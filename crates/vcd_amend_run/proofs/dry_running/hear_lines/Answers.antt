@@ -4,8 +4,8 @@ use Rattle.vcd_amend_run.proofs.dry_running.hear_lines.Goals as goal
 
 pub loop-line-preserved : goal.loop-line-preserved
 loop-line-preserved c = record {
-  left = line_more c.loop-line.invariant.left c.in-Some.ensures.0 c.hear_line.new.session c.hear_line.new.history
-      c.hear_line.new.heard c.in-Ok.ensures;
+  left = line_more c.loop-line.invariant.left c.in-Some.ensures.0 c.hear_line.new.state.session
+      c.hear_line.new.state.history c.hear_line.new.heard c.in-Ok.ensures;
   number = omega (arith, c.in-Some.ensures.1);
 }
 

@@ -14,14 +14,16 @@ amendment_for-requires-clause-sizes c =
 
 pub amendment_for-requires-clause-rising : goal.amendment_for-requires-clause-rising
 amendment_for-requires-clause-rising c =
-    subst (λ (d : Contents). RiseWithin 0 (length d.signals) c.args.origins.now) (sym c.in_ok-first.ensures)
-    (later_after_cuts (contents c.args.first) c.args.cuts.now c.args.origins.now c.args.session.now.now
+    let later = c.args.later.now in
+    subst (λ (d : Contents). RiseWithin 0 (length d.signals) later.origins.now) (sym c.in_ok-first.ensures)
+    (later_after_cuts (contents c.args.first) c.args.cuts.now later.origins.now later.session.now.now
     c.requires.come).rising
 
 pub amendment_for-requires-clause-come : goal.amendment_for-requires-clause-come
 amendment_for-requires-clause-come c =
-    subst (λ (last : Contents). ComeFrom (contents c.in_ok-first.first) c.args.origins.now last.signals)
-    (sym c.capture.ensures.now)
-    (subst (λ (d : Contents). ComeFrom d c.args.origins.now c.args.session.now.now.signals) (sym c.in_ok-first.ensures)
-    (later_after_cuts (contents c.args.first) c.args.cuts.now c.args.origins.now c.args.session.now.now
+    let later = c.args.later.now in
+    subst (λ (last : Contents). ComeFrom (contents c.in_ok-first.first) later.origins.now last.signals)
+    (sym c.capture-last.ensures.now)
+    (subst (λ (d : Contents). ComeFrom d later.origins.now later.session.now.now.signals) (sym c.in_ok-first.ensures)
+    (later_after_cuts (contents c.args.first) c.args.cuts.now later.origins.now later.session.now.now
     c.requires.come).come)

@@ -1,6 +1,5 @@
-use Rattle.std.proofs.Common.{ℕ, ◌<◌, Some, List, length, map, get_or, refl, ap, subst, arith}
+use Rattle.std.proofs.Common.{ℕ, ◌<◌, Some, List, length, map, get_or, ap, subst, arith}
 use Rattle.std.proofs.lemmas.List.{length-map}
-use Rattle.vcd_core.specs.inside.value.EqualByLetters.{same_letters-Decides}
 use Rattle.vcd_compare.specs.inside.Occurrences.{IsLastPlace}
 use Rattle.vcd_compare.specs.inside.Pairs.{variable_in}
 use Rattle.vcd_compare.proofs.pairs.Changes.{all_changed, one_changed}
@@ -24,16 +23,10 @@ loop-at-preserved c limit variable has last_is =
       | then-place-all w ↦ (
         place,
         omega (arith, below),
-        one_changed c.args.bounds change.which variable change.tick change.value bound place old c.loop-at.all
+        one_changed c.args.bounds change.which variable change.tick change.digits.now bound place old c.loop-at.all
             c.if-place-all.all (get_or c.loop-at.all place w.index-all-place.result) _ within changed last
-            (ap (get_or c.loop-at.all place) w.index-all-place.is) refl
-            (record {
-              found = λ wave other. w.change.ensures.found wave other (λ v. (same_letters-Decides v v).1 refl);
-              tick_is = w.change.ensures.tick;
-              a = w.change.ensures.a;
-              b = w.change.ensures.b;
-            })
-            w.all-is,
+            (ap (get_or c.loop-at.all place) w.index-all-place.is) w.change.ensures.others
+            w.change.ensures.changed w.all-is,
         before,
       )
       | else-place-all w ↦
@@ -46,5 +39,5 @@ returns c limit variable has last_is =
     let change = c.args.change.now in
     let old = c.args.all.now in
     let (bound, within, changed, at_last) = c.loop-at.invariant limit variable has last_is in
-    all_changed c.args.bounds change.which variable change.tick change.value bound old c.loop-at.all within changed
+    all_changed c.args.bounds change.which variable change.tick change.digits.now bound old c.loop-at.all within changed
     (subst (IsLastPlace (map (variable_in change.which) old) bound variable) c.in_default.is at_last)

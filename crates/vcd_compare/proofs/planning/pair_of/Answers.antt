@@ -1,17 +1,16 @@
-use Rattle.std.proofs.Common.{◌≡◌, ◌∙◌, ◌≤◌, sym, subst}
-use Rattle.vcd_core.specs.declared.value.TheConstants.{WIDTH_LIMIT}
+use Rattle.std.proofs.Common.{◌≡◌, ◌∙◌, sym, arith}
 use Rattle.vcd_text.specs.Grammar.{kept_variables}
 use Rattle.vcd_compare.proofs.planning.Planned.{kept_size, kept_width}
 use Rattle.vcd_compare.proofs.planning.pair_of.Goals as goal
 
 pub returns-clause-planned : goal.returns-clause-planned
 returns-clause-planned c s t at_s at_t are =
-    let size = kept_size s.declared c.args.position are.own are.at_first in
-    let width : c.width_at-width.result ≡ are.own.size =
-    c.width_at-width.ensures
-    ∙ kept_width (kept_variables s.declared) c.args.position are.own _ (c.signals.ensures s at_s) are.at_first in
-    let least : 1 ≤ c.width_at-width.result = subst (λ n. 1 ≤ n) (sym width) size.0 in
-    let most : c.width_at-width.result ≤ WIDTH_LIMIT = subst (λ n. n ≤ WIDTH_LIMIT) (sym width) size.1 in
+    let size = kept_size s.declared c.args.positions.0 are.own are.at_first in
+    let of_first : c.width_at.result ≡ are.own.size =
+    c.width_at.ensures
+    ∙ kept_width (kept_variables s.declared) c.args.positions.0 are.own _ (c.signals.ensures s at_s) are.at_first in
+    let width : c.min-width.result ≡ are.own.size =
+    omega (arith, size.0, size.1, of_first, c.max.ensures, c.min-width.ensures) in
     record {
       own = are.own;
       partner = are.partner;
@@ -21,7 +20,7 @@ returns-clause-planned c s t at_s at_t are =
       second_variable = c.first_of-2.ensures t are.partner at_t are.at_second;
       own_width = sym width;
       partner_width = sym are.one_size ∙ sym width;
-      tick = c.new.ensures.tick;
-      a = c.new.ensures.a ∙ c.all_x-x.ensures least most;
-      b = c.new.ensures.b ∙ c.all_x-x.ensures least most;
+      tick = c.in_ok-new.ensures.tick;
+      a = c.in_ok-new.ensures.a;
+      b = c.in_ok-new.ensures.b;
     }

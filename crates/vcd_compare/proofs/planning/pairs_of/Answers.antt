@@ -12,7 +12,7 @@ use Rattle.vcd_compare.specs.inside.Planning.{pair_positions}
 use Rattle.vcd_compare.specs.inside.Walk.{ArePlanned, IsPlannedPair}
 use Rattle.vcd_compare.proofs.planning.Planned.{one_pair, no_pair, first_below, same_within}
 use Rattle.vcd_compare.proofs.planning.pairs_of.Goals as goal
-use Rattle.vcd_compare.proofs.planning.pairs_of.Goals.{in-Compared+in_ok-push, in_default}
+use Rattle.vcd_compare.proofs.planning.pairs_of.Goals.{in-Compared+in_ok-pair+in_ok-push, in_default}
 
 pub loop-position-init : goal.loop-position-init
 loop-position-init c =
@@ -42,8 +42,8 @@ loop-position-preserved c =
     let kept = c.loop-position.invariant in
     let old = c.loop-position.pairs in
     elim c.match-outcomes-position.branch [
-      | in-Compared+in_ok-push w ↦
-          let pair = w.pair_of.result in
+      | in-Compared+in_ok-pair+in_ok-push w ↦
+          let pair = w.in_ok-pair.pair in
           let new = w.push.new.self in
           let is : get_or os n outcomes.NotAsked ≡ outcomes.Compared w.in-Compared.partner =
           same_within os n outcomes.NotAsked _ c.loop-position-test.true ∙ w.in-Compared.is in
@@ -52,10 +52,10 @@ loop-position-preserved c =
           rw w.pairs-is (record {
             bounds = w.in_ok-push.ensures.bounds ∙ kept.bounds;
             positions = one_pair n os old.all.items kept.positions pair new.all.items w.in-Compared.partner is
-                w.pair_of.ensures.first w.pair_of.ensures.second w.in_ok-push.ensures.all;
+                w.in_ok-pair.ensures.first w.in_ok-pair.ensures.second w.in_ok-push.ensures.all;
             pairs = λ s t at_s at_t are.
                 let before = kept.pairs s t at_s at_t are in
-                let planned = w.pair_of.ensures.planned s t at_s at_t (are n w.in-Compared.partner at) in
+                let planned = w.in_ok-pair.ensures.planned s t at_s at_t (are n w.in-Compared.partner at) in
                 record {
                   planned = subst (ArePlanned c.args.bounds (kept_variables s.declared) (kept_variables t.declared))
                       (sym w.in_ok-push.ensures.all)

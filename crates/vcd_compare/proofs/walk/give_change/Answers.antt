@@ -1,11 +1,10 @@
 use Rattle.std.proofs.Common.{◌≡◌, ◌<◌, ℕ, refl, sym, ap, subst, ◌∙◌}
 use Rattle.std.specs.Prelude.{slice_get}
 use Rattle.vcd_text.specs.HeardChanges.{HeardChange}
-use Rattle.vcd_text.specs.Letters.{value_of_digits}
 use Rattle.vcd_text.specs.declared.reading.heard_changes.ChangeTarget.TheVariants.{Kept}
 use Rattle.vcd_text.specs.LentChanges.{heard_contents}
 use Rattle.vcd_text.specs.inside.reading.ChangeStream.{heard_by}
-use Rattle.vcd_compare.specs.inside.Pairs.{chosen, AreAsWide, ArePairsAfter}
+use Rattle.vcd_compare.specs.inside.Pairs.{chosen, ArePairsAfter}
 use Rattle.vcd_compare.proofs.side.Chunks.{change_is, same_kept, kept_or_skipped}
 use Rattle.vcd_compare.proofs.walk.give_change.Goals as goal
 
@@ -21,13 +20,13 @@ returns-in-Kept c h rest at =
       bounds = c.change.ensures.bounds;
       listed = λ variable count others kept listed below. c.change.ensures.listed count others listed
           (subst (λ v. v < chosen c.args.which count others) (sym (same variable kept)) below);
-      changed = λ variable count others width value kept listed below wide least most reads.
-          subst (λ v. v < chosen c.args.which count others
-          → AreAsWide c.args.which v width c.args.pairs.now.all.items
-          → ArePairsAfter c.args.pairs.now.bounds c.args.which v c.args.tick value c.args.pairs.now.all.items
-          c.change.new.self.all.items) (same variable kept)
-          (λ below' wide'. c.change.ensures.changed count others width value listed below' wide' least most
-          (ap (λ (g : HeardChange). value_of_digits width g.text) is ∙ reads)) below wide;
+      changed = λ variable count others kept listed below.
+          subst (λ (g : HeardChange). ArePairsAfter c.args.pairs.now.bounds c.args.which variable c.args.tick g.text
+          c.args.pairs.now.all.items c.change.new.self.all.items) is
+          (subst (λ v. v < chosen c.args.which count others
+          → ArePairsAfter c.args.pairs.now.bounds c.args.which v c.args.tick
+          (heard_contents c.get-change.result).text c.args.pairs.now.all.items c.change.new.self.all.items)
+          (same variable kept) (c.change.ensures.changed count others listed) below);
     }
 
 pub returns-in-Skipped : goal.returns-in-Skipped
@@ -38,6 +37,6 @@ returns-in-Skipped c h rest at =
     record {
       bounds = refl;
       listed = λ variable count others kept listed below. listed;
-      changed = λ variable count others width value kept listed below wide least most reads.
+      changed = λ variable count others kept listed below.
           absurd (kept_or_skipped _ _ (sym kept ∙ sym (ap (λ (g : HeardChange). g.target) is) ∙ c.in-Skipped.is));
     }

@@ -8,7 +8,7 @@ use Rattle.vcd_remarks.proofs.line_remarks.run_remarked_lines.Goals as goal
 
 pub returns-clause-remarked : goal.returns-clause-remarked
 returns-clause-remarked g c =
-    let lines : List (List ℕ) = script_lines c.args.script.now in
+    let lines : List (List ℕ) = script_lines c.args.input.now.script.now in
     let saw = c.run_lines-ran.ensures.observed in
     let named = same_name (λ o. o.writer.ghost_name) (λ o. o.has_ended) (λ o. g.Q.Sink.taken o.writer.now) 1
     c.args.session.now (take saw.0 lines) _ _ saw.1 in

@@ -1,10 +1,8 @@
 -- What a fault leaves that ends the writing of one reply.
 use Rattle.std.specs.Prelude.{◌≡◌, ◌≤◌, ℕ, ◌+◌, List, length, take, Option}
 use Rattle.std.specs.Io.KnownBytes.{Appends, Keeps}
-use Rattle.vcd_journal.specs.Machine.{Machine}
 use Rattle.vcd_script.specs.declared.running.run_error.RunError.{RunError}
 use Rattle.vcd_script.specs.declared.running.run_error.RunError.TheVariants as run_errors
-use Rattle.vcd_script.specs.SessionLines.{reply_on}
 
 -- writing this text, the reply to the line of this number, ended at this fault. `written_before`
 -- bytes preceded it; a writer's fault counts those taken. If memory ran out, none of the text was
@@ -18,10 +16,3 @@ StopsAtReply number text written_before before after (run_errors.ReplyFault writ
     (count : ℕ) × (written ≡ written_before + count) × (count ≤ length text)
     × Appends before after (take count text)
 StopsAtReply number text written_before before after _ = ⊥
-
--- the same for the reply to a line, on the machine before it
-abbrev pub StopsAtLine : (skipped number : ℕ) → (line : List ℕ) → Machine → (written_before : ℕ)
-    → (before after : Option (List ℕ)) → RunError → Type 0
-StopsAtLine skipped number line old written_before before after e =
-    StopsAtReply number (reply_on skipped number line old)
-    written_before before after e

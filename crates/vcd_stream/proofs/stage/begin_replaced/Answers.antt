@@ -6,6 +6,6 @@ use Rattle.vcd_stream.proofs.stage.begin_replaced.Goals as goal
 
 pub returns-then-ticks : goal.returns-then-ticks
 returns-then-ticks g c =
-    let letters = g.V.Letters.letters c.args.width in
-    λ more. ap (λ l. all_seen letters c.args.out.now.items ++ without_repeats (letters c.args.last) l)
-    (sym (begun_none c.args.ticks (letters c.args.value) more (omega arith)))
+    let letters = g.V.Letters.letters c.args.last.width in
+    λ more. ap (λ l. all_seen letters c.args.out.now.items ++ without_repeats (letters c.args.last.value) l)
+    (sym (begun_none c.args.replaced.ticks (letters c.args.replaced.value) more (omega arith)))

@@ -9,13 +9,14 @@ use Rattle.vcd_stream.proofs.stage.finish_hidden.Goals as goal
 pub returns-then-ticks : goal.returns-then-ticks
 unfolding without_repeats
 returns-then-ticks g c =
-    let letters = g.V.Letters.letters c.args.width in
-    sym (append-nil _) ∙ ap (λ l. all_seen letters c.args.out.now.items ++ without_repeats (letters c.args.last) l)
+    let letters = g.V.Letters.letters c.args.last.width in
+    sym (append-nil _)
+    ∙ ap (λ l. all_seen letters c.args.out.now.items ++ without_repeats (letters c.args.last.value) l)
     (sym (hidden_to_end c.args.ticks (letters c.args.now) (omega arith)))
 
 pub returns : goal.returns
 returns g c =
-    let letters = g.V.Letters.letters c.args.width in
+    let letters = g.V.Letters.letters c.args.last.width in
     subst (λ l. OnOk c.finish_with.result (all_seen letters c.finish_with.new.out.items
-    ≡ all_seen letters c.args.out.now.items ++ without_repeats (letters c.args.last) l))
+    ≡ all_seen letters c.args.out.now.items ++ without_repeats (letters c.args.last.value) l))
     (sym (shown_last c.args.ticks (letters c.args.now) (omega arith))) c.finish_with.ensures

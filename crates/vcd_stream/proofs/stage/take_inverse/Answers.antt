@@ -9,6 +9,6 @@ use Rattle.vcd_stream.proofs.stage.take_inverse.Goals as goal
 pub returns : goal.returns
 unfolding made_changes
 returns g c =
-    one_given (g.V.Letters.letters c.args.width) _ _ c.args.change _ _ _ c.in_ok-last.ensures
+    one_given (g.V.Letters.letters c.args.last.width) _ _ c.args.change _ _ _ c.in_ok-last.ensures
     (λ more. ap (λ v. change c.args.change.tick v ∷ map (mapped_change (map not_bit)) more)
-    (sym (c.inverse-value.ensures c.args.width c.requires.most)))
+    (sym (c.inverse-value.ensures c.args.last.width c.requires.most)))

@@ -39,7 +39,7 @@ impl Variables {
         if is_skipped(kind.as_slice(), size) {
             return self.skip(alloc, code.as_slice());
         }
-        self.keep(alloc, kind, size, code.as_slice(), name)
+        self.keep(kind, size, code.as_slice(), name)
     }
 
     /// Declares a skipped variable.
@@ -59,20 +59,14 @@ impl Variables {
     }
 
     /// Declares a kept variable.
-    fn keep(
-        &mut self,
-        alloc: Global,
-        kind: Word,
-        width: u64,
-        code: &[u8],
-        name: Vec<Word>,
-    ) -> Result<(), Fault>
+    fn keep(&mut self, kind: Word, width: u64, code: &[u8], name: Vec<Word>) -> Result<(), Fault>
         requires least { 1 ≤ width }
         requires most { width ≤ WIDTH_LIMIT }
         ensures { (c : ParseState) → let d = declaration_of_parts c kind width code.now name.items
             in VariablesMatch self.old c → c.value_changes ≡ [] → IsFalse (is_skipped d) →
             DeclaresAs c d result self.new }
     {
+        let alloc = *name.allocator();
         let first = self.first_of(code, width)?;
         let variable = Variable {
             place: self.scopes.place(),

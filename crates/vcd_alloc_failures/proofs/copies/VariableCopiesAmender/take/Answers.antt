@@ -8,6 +8,6 @@ on_error (Err e) p = p
 pub returns-in_err-words-clause-more : goal.returns-in_err-words-clause-more
 returns-in_err-words-clause-more g c = on_error c.from_residual.result (record {
   same_writer = c.write_bytes.ensures.written.same_writer;
-  part = c.args.space.now;
+  part = c.args.ended.now.space.now;
   appends = c.write_bytes.ensures.written.appends;
 })

@@ -25,13 +25,13 @@ pub take_value-requires : goal.take_value-requires
 take_value-requires g c = let (r, seen) = c.requires in
     (before_state r, before_none (amendment_contents c.args.inner.now.amendment.now) r, seen)
 
-pub returns-then-is_text-clause-written : goal.returns-then-is_text-clause-written
-returns-then-is_text-clause-written g c = λ r p seen here.
+pub returns-then-change-clause-written : goal.returns-then-change-clause-written
+returns-then-change-clause-written g c = λ r p seen here.
     let a = amendment_contents c.args.inner.now.amendment.now in
     let s = before_state r in
     let none = before_none a r in
-    let code = c.args.code.now in
-    let key = rw c.if-is_text.true at here.key in
+    let code = c.args.change.code.now in
+    let key = rw c.if-change.true at here.key in
     let it = real_is a s none code p.item (text_of_key p.item code key) in
     let used = c.let_real_stand-is_used.ensures.stands s none seen in
     let sp = sym here.space_is in
@@ -40,13 +40,13 @@ returns-then-is_text-clause-written g c = λ r p seen here.
     ∙ sym (ap₂ (λ f l. bytes_in_place f (flat_map item_line l) p) it.fate it.inserted)
     ∙ sym (one_copied a r p (change_after (λ t. false) s [] p _ key).may)) c.write_if.ensures
 
-pub returns-then-is_text-clause-seen : goal.returns-then-is_text-clause-seen
-returns-then-is_text-clause-seen g c = λ r p seen here.
+pub returns-then-change-clause-seen : goal.returns-then-change-clause-seen
+returns-then-change-clause-seen g c = λ r p seen here.
     let a = amendment_contents c.args.inner.now.amendment.now in
     let s = before_state r in
     let none = before_none a r in
-    let code = c.args.code.now in
-    let key = rw c.if-is_text.true at here.key in
+    let code = c.args.change.code.now in
+    let key = rw c.if-change.true at here.key in
     let it = real_is a s none code p.item (text_of_key p.item code key) in
     let used = c.let_real_stand-is_used.ensures.stands s none seen in
     seen_more c.let_real_stand-is_used.new.self a r p s _
@@ -60,8 +60,8 @@ returns-clause-written g c = λ r p seen here.
     let a = amendment_contents c.args.inner.now.amendment.now in
     let s = before_state r in
     let none = before_none a r in
-    let code = c.args.code.now in
-    let key = rw c.if-is_text.false at here.key in
+    let code = c.args.change.code.now in
+    let key = rw c.if-change.false at here.key in
     let v = value_is a s none code p.item (value_of_key p.item code key) in
     writes_as (sym (ap₂ (λ f l. bytes_in_place f (flat_map item_line l) p) v.fate v.inserted)
     ∙ sym (one_copied a r p (change_after (λ t. false) s [] p _ key).may))
@@ -72,8 +72,8 @@ returns-clause-seen g c = λ r p seen here.
     let a = amendment_contents c.args.inner.now.amendment.now in
     let s = before_state r in
     let none = before_none a r in
-    let code = c.args.code.now in
-    let key = rw c.if-is_text.false at here.key in
+    let code = c.args.change.code.now in
+    let key = rw c.if-change.false at here.key in
     let v = value_is a s none code p.item (value_of_key p.item code key) in
     seen_more c.take_value.new.self a r p _ _ (ap amendment_contents c.take_value.ensures.same) v.state
     (v.still (item_fate a s p.item) ∙ ap (λ f. none && leaves_out f) v.fate)

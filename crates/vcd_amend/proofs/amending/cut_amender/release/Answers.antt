@@ -23,6 +23,7 @@ returns-in_err-held-clause-more g c = on_error c.from_residual.result more_none
 pub returns-then-is_empty-clause-written : goal.returns-then-is_empty-clause-written
 unfolding copied_pieces
 returns-then-is_empty-clause-written g c = λ r ps seen are later.
+    let last = c.args.last in
     let held = c.in_ok-held.held in
     let none = no_changes held.items (omega (
       arith,
@@ -33,12 +34,13 @@ returns-then-is_empty-clause-written g c = λ r ps seen are later.
     let no_ps : ps ≡ [] = no_pieces ps (subst (λ (l : List HeldChange). ArePieces l ps) (sym c.in_ok-held.ensures
     ∙ none)
     are) in
-    writes_as (sym (ap (λ (l : List Piece). copied_pieces (rules_of c.args.inner.now) r (released c.args.is_cut
-    c.args.tick
+    writes_as (sym (ap (λ (l : List Piece). copied_pieces (rules_of c.args.inner.now) r (released last.is_cut
+    last.tick
     l)) no_ps)) writes_none
 
 pub returns-then-is_empty-clause-seen : goal.returns-then-is_empty-clause-seen
 returns-then-is_empty-clause-seen g c = λ r ps seen are later.
+    let last = c.args.last in
     let held = c.in_ok-held.held in
     let none = no_changes held.items (omega (
       arith,
@@ -49,22 +51,23 @@ returns-then-is_empty-clause-seen g c = λ r ps seen are later.
     let no_ps : ps ≡ [] = no_pieces ps (subst (λ (l : List HeldChange). ArePieces l ps) (sym c.in_ok-held.ensures
     ∙ none)
     are) in
-    subst (λ (l : List Piece). HasSeen c.args.inner.now (r ++ released c.args.is_cut c.args.tick l)) (sym no_ps)
+    subst (λ (l : List Piece). HasSeen c.args.inner.now (r ++ released last.is_cut last.tick l)) (sym no_ps)
     (subst (HasSeen c.args.inner.now) (sym (append-nil r)) seen)
 
 pub returns-clause-written : goal.returns-clause-written
 returns-clause-written g c = λ r ps seen are later.
+    let last = c.args.last in
     let held = c.in_ok-held.held in
     let here : ArePieces held.items ps = subst (λ (l : List HeldChange). ArePieces l ps) (sym c.in_ok-held.ensures) are
     in
     let some : held.items ≡ [] → ⊥ = λ none. false≢true (sym c.if-is_empty.false ∙ c.is_empty.ensures
     ∙ same_number held.len 0 (held.ok.0 ∙ ap (λ (l : List HeldChange). length l) none)) in
-    let line = if c.args.is_cut then stamp_line c.args.tick ∷ [] else [] in
+    let line = if last.is_cut then stamp_line last.tick ∷ [] else [] in
     let put = c.in_ok-put_held_stamp.ensures in
     writes_as (ap (λ (x : Amendment). copied_pieces (rules_of c.args.inner.now) r line
     ++ copied_pieces (amendment_rules (amendment_contents x) 0) (r ++ line) ps) c.put_held_stamp.ensures.same
     ∙ sym (copied_more (rules_of c.args.inner.now) r line ps)
-    ∙ ap (copied_pieces (rules_of c.args.inner.now) r) (sym (released_some c.args.is_cut c.args.tick held.items ps here
+    ∙ ap (copied_pieces (rules_of c.args.inner.now) r) (sym (released_some last.is_cut last.tick held.items ps here
     some)))
     (writes_both (put.written r seen later)
     (c.put_changes.ensures.written (r ++ line) ps (put.seen r seen later)
@@ -72,15 +75,16 @@ returns-clause-written g c = λ r ps seen are later.
 
 pub returns-clause-seen : goal.returns-clause-seen
 returns-clause-seen g c = λ r ps seen are later.
+    let last = c.args.last in
     let held = c.in_ok-held.held in
     let here : ArePieces held.items ps = subst (λ (l : List HeldChange). ArePieces l ps) (sym c.in_ok-held.ensures) are
     in
     let some : held.items ≡ [] → ⊥ = λ none. false≢true (sym c.if-is_empty.false ∙ c.is_empty.ensures
     ∙ same_number held.len 0 (held.ok.0 ∙ ap (λ (l : List HeldChange). length l) none)) in
-    let line = if c.args.is_cut then stamp_line c.args.tick ∷ [] else [] in
+    let line = if last.is_cut then stamp_line last.tick ∷ [] else [] in
     let put = c.in_ok-put_held_stamp.ensures in
     subst (HasSeen c.put_changes.new.inner)
-    (append_assoc r line ps ∙ ap (λ l. r ++ l) (sym (released_some c.args.is_cut c.args.tick held.items ps here some)))
+    (append_assoc r line ps ∙ ap (λ l. r ++ l) (sym (released_some last.is_cut last.tick held.items ps here some)))
     (c.put_changes.ensures.seen (r ++ line) ps (put.seen r seen later)
     (subst (λ (l : List HeldChange). ArePieces l ps) (sym c.as_slice.ensures.value) here))
 
@@ -89,7 +93,7 @@ put_held_stamp-requires g c = let (r, ps, seen, are, later) = c.requires in (r, 
 
 pub put_changes-requires : goal.put_changes-requires
 put_changes-requires g c = let (r, ps, seen, are, later) = c.requires in (
-  r ++ (if c.args.is_cut then stamp_line c.args.tick ∷ [] else []),
+  r ++ (if c.args.last.is_cut then stamp_line c.args.last.tick ∷ [] else []),
   ps,
   c.in_ok-put_held_stamp.ensures.seen r seen later,
   subst (λ (l : List HeldChange). ArePieces l ps) (sym (c.as_slice.ensures.value ∙ c.in_ok-held.ensures)) are,

@@ -12,12 +12,13 @@ loop-change-preserved g c =
     let d = c.in-Some.change in
     let (within, early, is) = c.in-Some.ensures.some in
     record {
-      text = prefix_grows _ kept.text c.write_after_feed.ensures (ending_step (is_open_by c.args.progress.now)
-          (map code_contents c.args.codes.now) (c.args.tick + 1) c.args.due.now c.loop-change.index d within is early);
+      text = prefix_grows _ kept.text c.write_after_feed.ensures (ending_step (is_open_by c.args.due.now.progress.now)
+          (map code_contents c.args.due.now.codes.now) (c.args.tick + 1) c.args.due.now.changes.now c.loop-change.index
+          d within is early);
       counts = c.write_after_feed.auto.counts ∙ kept.counts;
     }
 
 pub returns : goal.returns
-returns g c = prefix_whole c.loop-change.invariant.text (ending_none (is_open_by c.args.progress.now)
-    (map code_contents c.args.codes.now) (c.args.tick + 1)
-    (map due_transition (drop c.loop-change.index c.args.due.now)) c.in_default.ensures.none)
+returns g c = prefix_whole c.loop-change.invariant.text (ending_none (is_open_by c.args.due.now.progress.now)
+    (map code_contents c.args.due.now.codes.now) (c.args.tick + 1)
+    (map due_transition (drop c.loop-change.index c.args.due.now.changes.now)) c.in_default.ensures.none)

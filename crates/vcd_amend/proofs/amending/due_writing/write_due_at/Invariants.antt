@@ -11,12 +11,14 @@ use Rattle.vcd_amend.proofs.amending.due_writing.write_due_at.Given as goal
 abbrev pub invariant-loop-change : goal.invariant-loop-change
 invariant-loop-change g l = record {
   text : WritesPrefix g.W.Sink l.initial.output l.output
-      (flat_map (λ i. 10 ∷ join_with_byte 32 (spelling i)) (map (due_item (map code_contents l.codes))
-      (filter (is_open_by l.progress) (before_tick (l.tick + 1) (map due_transition (drop l.index l.due))))))
-      (flat_map (λ i. 10 ∷ join_with_byte 32 (spelling i)) (map (due_item (map code_contents l.codes))
-      (filter (is_open_by l.progress) (before_tick (l.tick + 1) (map due_transition (drop l.next l.due))))));
-  counts : length l.counts ≡ length l.codes;
+      (flat_map (λ i. 10 ∷ join_with_byte 32 (spelling i)) (map (due_item (map code_contents l.due.codes.now))
+      (filter (is_open_by l.due.progress.now) (before_tick (l.tick + 1) (map due_transition (drop l.index
+      l.due.changes.now))))))
+      (flat_map (λ i. 10 ∷ join_with_byte 32 (spelling i)) (map (due_item (map code_contents l.due.codes.now))
+      (filter (is_open_by l.due.progress.now) (before_tick (l.tick + 1) (map due_transition (drop l.due.next
+      l.due.changes.now))))));
+  counts : length l.counts ≡ length l.due.codes.now;
 }
 
 abbrev pub decreases-loop-change : goal.decreases-loop-change
-decreases-loop-change g l = length l.due - l.index
+decreases-loop-change g l = length l.due.changes.now - l.index

@@ -16,19 +16,21 @@ loop-change-preserved g c =
     let (within, early, is) = c.in-Some.ensures.some in
     record {
       text = prefix_grows _ kept.text c.write_stamped-stamped.ensures.written
-          (stamped_step (is_open_by c.args.progress.now)
-          (map code_contents c.args.codes.now) c.loop-change.stamped c.write_stamped-stamped.result c.args.tick
-          c.args.due.now
+          (stamped_step (is_open_by c.args.due.now.progress.now)
+          (map code_contents c.args.due.now.codes.now) c.loop-change.stamped c.write_stamped-stamped.result c.args.tick
+          c.args.due.now.changes.now
           c.loop-change.index d within is early c.write_stamped-stamped.ensures.last);
-      next = from_step c.args.tick c.args.due.now c.loop-change.index d within is early ∙ kept.next;
+      next = from_step c.args.tick c.args.due.now.changes.now c.loop-change.index d within is early ∙ kept.next;
       counts = c.write_stamped-stamped.auto.counts ∙ kept.counts;
     }
 
 pub returns-clause-written : goal.returns-clause-written
-returns-clause-written g c = prefix_whole c.loop-change.invariant.text (stamped_none (is_open_by c.args.progress.now)
-    (map code_contents c.args.codes.now) c.loop-change.stamped c.args.tick
-    (map due_transition (drop c.loop-change.index c.args.due.now)) c.in_default.ensures.none)
+returns-clause-written g c = prefix_whole c.loop-change.invariant.text (stamped_none (is_open_by
+    c.args.due.now.progress.now)
+    (map code_contents c.args.due.now.codes.now) c.loop-change.stamped c.args.tick
+    (map due_transition (drop c.loop-change.index c.args.due.now.changes.now)) c.in_default.ensures.none)
 
 pub returns-clause-next : goal.returns-clause-next
-returns-clause-next g c = sym (from_none c.args.tick (map due_transition (drop c.loop-change.index c.args.due.now))
+returns-clause-next g c = sym (from_none c.args.tick (map due_transition (drop c.loop-change.index
+    c.args.due.now.changes.now))
     c.in_default.ensures.none) ∙ c.loop-change.invariant.next

@@ -11,7 +11,7 @@ pub loop-wave-preserved : goal.loop-wave-preserved
 loop-wave-preserved c = record {
   codes = λ s taken knows has.
       let so_far = c.loop-wave.invariant.codes s taken knows has in
-      let one = c.in_ok-position.ensures.codes s so_far.0 knows so_far.1 in
+      let one = c.in_ok-code_wave.ensures.codes s so_far.0 knows so_far.1 in
       let ws = c.args.changed.now in
       let i = c.loop-wave.wave-index in
       let w = as_new_wave (changed_contents c.wave-item.result) in
@@ -19,15 +19,17 @@ loop-wave-preserved c = record {
       changed_contents ws i c.wave-item.result (omega arith) c.wave-item.is) in
       let before = map code_contents c.args.codes.now.items in
       let middle = map code_contents c.loop-wave.codes.items in
-      let some = subst (GetCodes s before taken 0 (new_waves_of ws) middle so_far.0 c.loop-wave.position) next so_far.2
+      let some = subst (GetCodes s before taken 0 (new_waves_of ws) middle so_far.0 c.loop-wave.given.position) next
+      so_far.2
       in (
         one.0,
         one.1,
         get_more s before middle (map code_contents c.code_wave.new.codes.items) taken so_far.0 one.0 0
-            c.loop-wave.position c.in_ok-position.position (new_waves_of ws) (new_waves_of (drop (i + 1) ws)) w some
+            c.loop-wave.given.position c.code_wave.new.given.position (new_waves_of ws) (new_waves_of (drop (i + 1) ws))
+            w some
             one.2,
       );
-  count = omega (arith, c.loop-wave.invariant.count, c.in_ok-position.ensures.count);
+  count = omega (arith, c.loop-wave.invariant.count, c.in_ok-code_wave.ensures.count);
 }
 
 pub returns-clause-codes : goal.returns-clause-codes
@@ -36,6 +38,6 @@ returns-clause-codes c = λ s taken knows has.
     let ws = c.args.changed.now in (
       so_far.0,
       subst (λ l. GetCodes s (map code_contents c.args.codes.now.items) taken 0 (new_waves_of ws)
-          (map code_contents c.loop-wave.codes.items) so_far.0 c.loop-wave.position (new_waves_of l))
+          (map code_contents c.loop-wave.codes.items) so_far.0 c.loop-wave.given.position (new_waves_of l))
           (drop_all c.loop-wave.wave-index ws (omega arith)) so_far.2,
     )

@@ -13,7 +13,7 @@ returns-then-has_code-clause-codes c = λ s before knows has.
       before,
       has,
       get_fresh s (map code_contents c.args.codes.now.items) (map code_contents c.code_fresh.new.codes.items) before
-          c.args.position (as_new_wave (changed_contents c.args.wave.now)) code refl c.in_ok-next.next there
+          c.args.given.now.position (as_new_wave (changed_contents c.args.wave.now)) code refl c.in_ok-next.next there
           (c.in_ok-next.ensures.codes s knows) (c.in_ok-next.ensures.next s knows),
     )
 
@@ -24,5 +24,6 @@ returns-clause-codes c = λ s before knows has.
       code ∷ before,
       λ key. c.in_ok-add_code.ensures key ∙ ap (λ b. bytes_eq key code || b) (has key),
       get_own s (map code_contents c.args.codes.now.items) (map code_contents c.push_own.new.codes.items) before
-          c.args.position (as_new_wave (changed_contents c.args.wave.now)) code refl free c.in_ok-push_own.ensures,
+          c.args.given.now.position (as_new_wave (changed_contents c.args.wave.now)) code refl free
+          c.in_ok-push_own.ensures,
     )

@@ -28,10 +28,12 @@ loop-word-init g c = (
     [],
     refl,
     inl refl,
-    λ limit start before h complete. rw (append-nil before) (chunk_begun c.args.held.now c.args.words.rest.now h),
+    λ limit start before h complete. rw (append-nil before) (chunk_begun c.args.copier.now.held c.args.words.rest.now
+        h),
   ),
   refl,
   more_none,
+  refl,
 )
 
 pub copy_word-requires-clause-reading : goal.copy_word-requires-clause-reading
@@ -61,7 +63,7 @@ copy_word-requires-clause-copying g c =
     let text = c.in-Some.word.text.now in
     let left = c.next_word.new.self.rest.now in (
       limit,
-      g.A.Amender.rules (g.A.Amender.given c.args.amender.now),
+      g.A.Amender.rules (g.A.Amender.given c.args.copier.now.amender.now),
       start,
       before ++ done,
       c.loop-word.left.rest.now,
@@ -99,20 +101,23 @@ loop-word-preserved g c =
         parts c.args.words.rest.now done old space text left split is,
         inr c.in-Some.ensures.ended,
         λ limit start before h complete. rw (append_assoc before done (space ++ text)) at (subst (λ r. HasCopiedUpTo
-            g.W.Sink limit r (g.A.Amender.has_seen c.copy_word.new.amender) start c.copy_word.new.output
-            c.copy_word.new.parser c.copy_word.new.held c.copy_word.new.unwritten.all.now
+            g.W.Sink limit r (g.A.Amender.has_seen c.copy_word.new.copier.amender.now) start
+            c.copy_word.new.copier.output
+            c.copy_word.new.parser c.copy_word.new.copier.held c.copy_word.new.unwritten.all.now
             c.copy_word.new.unwritten.item.now left ((before ++ done) ++ (space ++ text)))
             (ap g.A.Amender.rules c.loop-word.invariant.3)
             (c.in_ok-copy_word.ensures.copied limit start (before ++ done) old (space ++ text) (subst
             (λ r. HasCopiedUpTo
-            g.W.Sink limit r (g.A.Amender.has_seen c.loop-word.amender) start c.loop-word.output c.loop-word.parser
-            c.loop-word.held c.loop-word.unwritten.all.now c.loop-word.unwritten.item.now old (before ++ done))
+            g.W.Sink limit r (g.A.Amender.has_seen c.loop-word.copier.amender.now) start c.loop-word.copier.output
+            c.loop-word.parser
+            c.loop-word.copier.held c.loop-word.unwritten.all.now c.loop-word.unwritten.item.now old (before ++ done))
             (ap g.A.Amender.rules (sym c.loop-word.invariant.3)) (copied limit start before h complete))
             (is ∙ sym (append_assoc space text left)) (next_is_spaced before done old space text left complete ends is
             white c.in-Some.ensures.no_space c.in-Some.ensures.some))),
       ),
       c.in_ok-copy_word.ensures.same ∙ c.loop-word.invariant.3,
       more_both c.loop-word.invariant.4 c.copy_word.ensures.more,
+      c.copy_word.ensures.same_amender ∙ c.loop-word.invariant.5,
     )
   where
     parts : (all done old space text left : List ℕ) → all ≡ done ++ old → old ≡ space ++ (text ++ left)
@@ -154,7 +159,7 @@ returns-clause-copied g c = λ limit start before h complete.
     let r = copied limit start before h complete in
     let all : (before ++ done) ++ rest ≡ before ++ c.args.words.rest.now =
     append_assoc before done rest ∙ ap (λ l. before ++ l) (sym split) in
-    rw all at (chunk_ended c.loop-word.held c.hold.new.held.items r c.in_default.ensures.space
+    rw all at (chunk_ended c.loop-word.copier.held c.hold.new.held.items r c.in_default.ensures.space
     (c.write_standing.ensures r.known r.unwritten.all_is) c.in_ok-hold.ensures)
 
 pub returns-in_err-copy_word-clause-more : goal.returns-in_err-copy_word-clause-more

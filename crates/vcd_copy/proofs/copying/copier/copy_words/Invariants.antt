@@ -20,14 +20,16 @@ invariant-loop-word g l =
     × ((done : List ℕ) × (l.fn.words.rest.now ≡ done ++ l.left.rest.now)
     × ((done ≡ []) ⊎ (ends_before true l.left.rest.now ≡ true))
     × ((limit : ℕ) (start : Output g.row.W.Denot) (before : List ℕ)
-    → HasCopied limit (g.A.Amender.rules (g.A.Amender.given l.fn.amender)) (g.A.Amender.has_seen l.fn.amender)
-    (Emits g.W.Sink start l.fn.output) l.fn.parser l.fn.held.bytes.items l.fn.held.space_len before
+    → HasCopied limit (g.A.Amender.rules (g.A.Amender.given l.fn.copier.amender.now)) (g.A.Amender.has_seen
+    l.fn.copier.amender.now)
+    (Emits g.W.Sink start l.fn.copier.output) l.fn.parser l.fn.copier.held.bytes.items l.fn.copier.held.space_len before
     → has_complete_words before ≡ true
-    → HasCopiedUpTo g.W.Sink limit (g.A.Amender.rules (g.A.Amender.given l.fn.amender))
-    (g.A.Amender.has_seen l.amender) start l.output
-    l.parser l.held l.unwritten.all.now l.unwritten.item.now l.left.rest.now (before ++ done)))
-    × (g.A.Amender.given l.amender ≡ g.A.Amender.given l.fn.amender)
-    × EmitsMore g.W.Sink l.fn.output l.output
+    → HasCopiedUpTo g.W.Sink limit (g.A.Amender.rules (g.A.Amender.given l.fn.copier.amender.now))
+    (g.A.Amender.has_seen l.copier.amender.now) start l.copier.output
+    l.parser l.copier.held l.unwritten.all.now l.unwritten.item.now l.left.rest.now (before ++ done)))
+    × (g.A.Amender.given l.copier.amender.now ≡ g.A.Amender.given l.fn.copier.amender.now)
+    × EmitsMore g.W.Sink l.fn.copier.output l.copier.output
+    × (l.copier.amender.ghost_name ≡ l.fn.copier.amender.ghost_name)
 
 abbrev pub decreases-loop-word : goal.decreases-loop-word
 decreases-loop-word g l = length {A = WordOnLine} (words_left l.left)

@@ -27,13 +27,13 @@ pub returns-then-is_empty-clause-written : goal.returns-then-is_empty-clause-wri
 returns-then-is_empty-clause-written g c = both_ok c.take.result c.take.ensures.written c.take.ensures.seen (λ writes
     seen limit before p known begun has shown unwritten bytes len.
     let item = c.args.unwritten.now.item.now in
-    let held = c.args.held.now.bytes in
+    let held = c.args.copier.now.held.bytes in
     let empty = nil_from_length held.items (omega (
       arith,
       eqb-true held.len 0 (sym c.is_empty.ensures ∙ c.if-is_empty.true),
       held.ok.0,
     )) in
-    let next = shown_here item begun c.args.rest.now held.items shown bytes len empty unwritten.item_is
+    let next = shown_here item begun c.args.unwritten.now.rest.now held.items shown bytes len empty unwritten.item_is
     c.split_at.ensures.front c.split_at.ensures.back in (
       writes_both (c.write_standing.ensures known unwritten.all_is) (writes limit before p has next),
       seen limit before p has next,
@@ -43,13 +43,13 @@ pub returns-then-is_empty-clause-more : goal.returns-then-is_empty-clause-more
 returns-then-is_empty-clause-more g c =
     let (limit, before, p, known, begun, has, shown, unwritten, bytes, len) = c.requires in
     let item = c.args.unwritten.now.item.now in
-    let held = c.args.held.now.bytes in
+    let held = c.args.copier.now.held.bytes in
     let empty = nil_from_length held.items (omega (
       arith,
       eqb-true held.len 0 (sym c.is_empty.ensures ∙ c.if-is_empty.true),
       held.ok.0,
     )) in
-    let next = shown_here item begun c.args.rest.now held.items shown bytes len empty unwritten.item_is
+    let next = shown_here item begun c.args.unwritten.now.rest.now held.items shown bytes len empty unwritten.item_is
     c.split_at.ensures.front c.split_at.ensures.back in
     more_both (writes_more (c.write_standing.ensures known unwritten.all_is)) (more_ended c.take.result
     c.take.ensures.written c.take.ensures.more (λ writes. writes_more (writes limit before p has next)))
@@ -57,9 +57,10 @@ returns-then-is_empty-clause-more g c =
 pub returns-clause-more : goal.returns-clause-more
 returns-clause-more g c =
     let (limit, before, p, known, begun, has, shown, unwritten, bytes, len) = c.requires in
-    let held = c.args.held.now.bytes.items in
+    let held = c.args.copier.now.held.bytes.items in
     let all : c.as_slice.result.now ≡ p.space ++ p.body = c.as_slice.ensures.value ∙ c.in_ok-hold.ensures
-    ∙ ap (λ l. held ++ l) (begun_is c.args.unwritten.now.item.now begun c.args.rest.now unwritten.item_is) ∙ bytes in
-    let next = taken_parts c.args.code.now _ _ shown refl (in_two _ _ _ p.space p.body c.args.held.now.space_len
+    ∙ ap (λ l. held ++ l) (begun_is c.args.unwritten.now.item.now begun c.args.unwritten.now.rest.now unwritten.item_is)
+    ∙ bytes in
+    let next = taken_parts c.args.code.now _ _ shown refl (in_two _ _ _ p.space p.body c.args.copier.now.held.space_len
     c.split_at-2.ensures.front c.split_at-2.ensures.back all len) in
     writes_more (c.in_ok-take.ensures.written limit before p has next)

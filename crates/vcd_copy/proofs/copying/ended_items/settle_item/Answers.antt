@@ -9,8 +9,9 @@ use Rattle.vcd_copy.proofs.copying.ended_items.settle_item.Goals as goal
 pub returns-in-Itself-clause-settled : goal.returns-in-Itself-clause-settled
 returns-in-Itself-clause-settled g c = λ limit before p known begun seen taken unwritten bytes len.
     let (same, later) = c.in-Itself.ensures.stands refl limit before p seen taken.shown in (
-      subst (HasPassed g.W.Sink c.args.output.now c.write_held.new.output c.write_held.new.held.bytes.items
-          c.args.unwritten.now.all.now c.args.rest.now c.args.rest.now known) (bytes ∙ sym same)
+      subst (HasPassed g.W.Sink c.args.copier.now.output c.write_held.new.output c.write_held.new.held.bytes.items
+          c.args.unwritten.now.all.now c.args.unwritten.now.rest.now c.args.unwritten.now.rest.now known) (bytes ∙ sym
+          same)
           (stands_up_to _ known known begun [] unwritten unwritten.all_is unwritten.one
           (nothing_added known writes_none) c.write_held.ensures.written c.write_held.ensures.none),
       later,
@@ -45,7 +46,8 @@ returns-in_ok-amend_item-in-Other-clause-settled g c = λ limit before p known b
         all_is = refl;
         item_is = refl;
         none = c.in_ok-amend_item-in-Other.ensures.none;
-        adds = part_written known _ (subst (λ (r : CopyRules). Emits g.W.Sink c.args.output.now c.amend_item.new.output
+        adds = part_written known _ (subst (λ (r : CopyRules). Emits g.W.Sink c.args.copier.now.output
+            c.amend_item.new.copier.output
             (known ++ r.in_place before p)) (ap g.A.Amender.rules c.settle.ensures.same) writes);
       },
       later,

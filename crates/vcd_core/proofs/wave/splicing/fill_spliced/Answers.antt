@@ -8,8 +8,8 @@ pub returns-clause-changes : goal.returns-clause-changes
 unfolding spliced_changes
 returns-clause-changes c =
     let list = c.args.list.now in
-    let rest : take c.loop-change.change-index (drop c.args.to list) ≡ drop c.args.to list =
-    take_all _ _ (omega (arith, length-drop c.args.to list)) in
+    let rest : take c.loop-change.change-index (drop c.args.range.end list) ≡ drop c.args.range.end list =
+    take_all _ _ (omega (arith, length-drop c.args.range.end list)) in
     c.loop-change.invariant.0
-    ∙ (λ i. take c.args.from list ++ c.args.piece.now
+    ∙ (λ i. take c.args.range.start list ++ c.args.piece.now
     ++ map (moved_change (to_z-of_z w64 c.args.by c.ranges.by i)) (rest i))

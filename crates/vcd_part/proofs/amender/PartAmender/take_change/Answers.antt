@@ -16,12 +16,12 @@ pub returns-in_default-clause-written : goal.returns-in_default-clause-written
 returns-in_default-clause-written g c = λ limit before p seen next is.
     let m = c.args.self.now in
     writes_as (sym (bytes_without m.request before p (refused_change_pieces limit m before p c.args.is_text
-    c.args.code.now _ _ seen.known next is c.in_default.is))) writes_none
+    c.args.ended.now.code.now _ _ seen.known next is c.in_default.is))) writes_none
 
 pub returns-in_default-clause-seen : goal.returns-in_default-clause-seen
 returns-in_default-clause-seen g c = λ limit before p seen next is.
     let m = c.args.self.now in
-    let code = c.args.code.now in
+    let code = c.args.ended.now.code.now in
     seen_without m m.waiting before p
     (refused_change_pieces limit m before p c.args.is_text code _ _ seen.known next is c.in_default.is)
     (change_passes limit m m.codes before p c.args.is_text code _ _ seen.known next is seen.known.uses
@@ -35,14 +35,15 @@ pub returns-then-is_up_to_first-clause-written : goal.returns-then-is_up_to_firs
 returns-then-is_up_to_first-clause-written g c = λ limit before p seen next is.
     let m = c.args.self.now in
     writes_as (sym (bytes_without m.request before p (early_change_pieces m before p c.in-Some.window c.args.is_text
-    c.args.code.now seen.known is c.in-Some.is (sym c.is_up_to_first.ensures ∙ c.if-is_up_to_first.true)))) writes_none
+    c.args.ended.now.code.now seen.known is c.in-Some.is (sym c.is_up_to_first.ensures ∙ c.if-is_up_to_first.true))))
+    writes_none
 
 pub returns-then-is_up_to_first-clause-seen : goal.returns-then-is_up_to_first-clause-seen
 returns-then-is_up_to_first-clause-seen g c = λ limit before p seen next is.
     let m = c.args.self.now in
     let s : ParseState = state_of_pieces 0 before in
     let known = seen.known in
-    let code = c.args.code.now in
+    let code = c.args.ended.now.code.now in
     seen_without (record m { codes = c.hold.new.self }) m.waiting before p
     (early_change_pieces m before p c.in-Some.window c.args.is_text code known is c.in-Some.is
     (sym c.is_up_to_first.ensures ∙ c.if-is_up_to_first.true))
@@ -55,7 +56,7 @@ returns-then-is_up_to_first-clause-seen g c = λ limit before p seen next is.
 pub returns-clause-written : goal.returns-clause-written
 returns-clause-written g c = λ limit before p seen next is.
     let m = c.args.self.now in
-    let code = c.args.code.now in
+    let code = c.args.ended.now.code.now in
     let stands = c.is_in_part-stands.ensures m.request (state_of_pieces 0 before).declared seen.known.uses in
     (put_as g.W.Sink _ _ _ _ _ _ (ap (λ (b : Bool). if b then p ∷ [] else []) stands
     ∙ sym (change_pieces m before p c.in-Some.window c.args.is_text code seen.known is c.in-Some.is))
@@ -65,7 +66,7 @@ returns-clause-written g c = λ limit before p seen next is.
 pub returns-clause-seen : goal.returns-clause-seen
 returns-clause-seen g c = λ limit before p seen next is.
     let m = c.args.self.now in
-    let code = c.args.code.now in
+    let code = c.args.ended.now.code.now in
     let stands = c.is_in_part-stands.ensures m.request (state_of_pieces 0 before).declared seen.known.uses in
     seen_with m c.write_change_if.new.waiting before p _
     (change_pieces m before p c.in-Some.window c.args.is_text code seen.known is c.in-Some.is

@@ -22,7 +22,7 @@ bounds-signals-position g c = omega (arith, (c.requires.keys c.loop-k.k 0 (omega
 
 pub loop-k-preserved : goal.loop-k-preserved
 loop-k-preserved g c =
-    let keys = c.args.keys.now in
+    let keys = c.args.window.keys.now in
     let k = c.loop-k.k in
     let kept = c.loop-k.invariant in
     let signals = c.args.signals.now in
@@ -30,17 +30,18 @@ loop-k-preserved g c =
     let key = get_or keys k 0 in
     let there = (c.requires.keys k 0 inside).position in
     let s = get_or signals (key % POSITIONS) c.index-signals-position.result in
-    let value = value_there signals s (key % POSITIONS) (c.args.from + key / POSITIONS) there
+    let value = value_there signals s (key % POSITIONS) (c.args.window.from + key / POSITIONS) there
     (get_or_default signals (key % POSITIONS) c.index-signals-position.result s there) in
     record {
       text = prefix_grows _ kept.text (writes_both c.write_new_stamp.ensures (writes_as (ap (λ v. item_line (value_item
           (code_of (key % POSITIONS)) v)) (sym value)) c.write_value_near.ensures)) (one_written (map signal_contents
-          signals) c.args.from c.loop-k.last k keys inside);
-      last = one_later c.args.from c.loop-k.last k _ keys inside kept.last;
+          signals) c.args.window.from c.loop-k.last k keys inside);
+      last = one_later c.args.window.from c.loop-k.last k _ keys inside kept.last;
       start_cursors = length-set c.prefetch_changes.new.start_cursors (key % POSITIONS) _ ∙ c.prefetch_changes.ensures
           ∙ kept.start_cursors;
     }
 
 pub returns-clause-text : goal.returns-clause-text
 returns-clause-text g c = prefix_whole c.loop-k.invariant.text (none_written
-    (map signal_contents c.args.signals.now) c.args.from c.loop-k.last c.loop-k.k c.args.keys.now (omega arith))
+    (map signal_contents c.args.signals.now) c.args.window.from c.loop-k.last c.loop-k.k c.args.window.keys.now
+    (omega arith))

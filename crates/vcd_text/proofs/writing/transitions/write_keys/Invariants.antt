@@ -13,10 +13,10 @@ invariant-loop-k g l =
     record {
       text : WritesPrefix g.W.Sink l.initial.output l.output
           (flat_map item_line (transition_items (map signal_contents l.signals) l.last
-          (transitions_of l.from (drop l.k l.keys))))
+          (transitions_of l.window.from (drop l.k l.window.keys.now))))
           (flat_map item_line (transition_items (map signal_contents l.signals) l.initial.last
-          (transitions_of l.from l.keys)));
-      last : last_tick l.last (transitions_of l.from (drop l.k l.keys))
-          ≡ last_tick l.initial.last (transitions_of l.from l.keys);
+          (transitions_of l.window.from l.window.keys.now)));
+      last : last_tick l.last (transitions_of l.window.from (drop l.k l.window.keys.now))
+          ≡ last_tick l.initial.last (transitions_of l.window.from l.window.keys.now);
       start_cursors : length l.start_cursors ≡ length l.initial.start_cursors;
     }

@@ -1,5 +1,5 @@
 -- Each turn writes the transitions of one window.
-use Rattle.std.proofs.Common.{◌≤◌, ◌+◌, map, refl, arith, ap, ◌∙◌}
+use Rattle.std.proofs.Common.{map, refl, arith, ap, ◌∙◌}
 use Rattle.vcd_core.specs.CaptureContents.{signal_contents}
 use Rattle.vcd_text.specs.inside.writing.Window.{transitions_of}
 use Rattle.vcd_text.proofs.writing.transitions.ItemsOfTicks.{end_left, window_written}
@@ -13,14 +13,12 @@ loop-from-preserved g c =
     let filled = c.fill_window-count in
     let written = c.write_keys-last in
     let ready = filled.ensures.ready in
-    let following : c.loop-from.from + filled.result ≤ c.args.end + 1 =
-    omega (arith, filled.ensures.most, c.min.ensures) in
     let all = ap (transitions_of c.loop-from.from) c.as_slice-keys.ensures.value ∙ filled.ensures.all in
     record {
       text =
           prefix_grows _ c.loop-from.invariant.text written.ensures.text
           (window_written signals c.args.end c.loop-from.last written.result c.loop-from.from filled.result _ all
-          written.ensures.last following);
+          written.ensures.last filled.ensures.within);
       ready = record {
         few = ready.few;
         sound = ready.sound;
@@ -29,7 +27,7 @@ loop-from-preserved g c =
         next = ready.next;
         start_cursors = grind (arith, with_items_is);
       };
-      within = following;
+      within = filled.ensures.within;
       some = c.next_window_ticks-most.ensures;
     }
 

@@ -29,7 +29,7 @@ loop-count-preserved c =
       next = grind (arith, with_items_is);
       tried = c.loop-count.invariant.tried;
       some = omega (arith, more, c.loop-count.invariant.some);
-      most = omega (arith, c.loop-count.invariant.most);
+      within = omega (arith, c.loop-count.invariant.within);
       room = omega (arith, c.loop-count.invariant.room, c.list_window.ensures.room);
     }
 

@@ -16,20 +16,21 @@ loop-next-preserved c =
     let new = c.push_in_room.new.keys.items in
     let cs = c.args.wave.now.changes in
     let more = c.following_change-next.ensures in
-    let early : next.tick < c.args.to = omega arith in
+    let early : next.tick < c.args.ticks.end = omega arith in
     record {
-      next = goes_on _ c.args.from c.args.to cs next c.following_change-next.result
+      next = goes_on _ c.args.ticks.start c.args.ticks.end cs next c.following_change-next.result
           (rw c.changes-changes.ensures.changes at c.changes-changes.ensures.form) kept.next early
           c.requires.end more.index more.tick
           (more.following_tick ∙ ap (λ l. tick_at l (next.index + 2)) c.changes-changes.ensures.changes);
       all =
-          ap (λ k. transitions_of c.args.from new ++ window_of_signal c.args.from c.args.to c.args.position (drop k cs))
-          more.index
-          ∙ one_key c.args.from next.tick c.args.position c.key_of.result keys new _ _ c.requires.position
+          ap (λ k. transitions_of c.args.ticks.start new
+          ++ window_of_signal c.args.ticks.start c.args.ticks.end c.args.position (drop k cs)) more.index
+          ∙ one_key c.args.ticks.start next.tick c.args.position c.key_of.result keys new _ _ c.requires.position
           kept.next.not_earlier c.key_of.ensures c.push_in_room.ensures.items
-          (ap (λ w. transitions_of c.args.from keys ++ w)
-          (sym (steps c.args.from c.args.to c.args.position cs next kept.next early c.requires.end)) ∙ kept.all);
-      keys = λ count inside all. key_holds c.args.from next.tick c.args.position count c.key_of.result keys new
+          (ap (λ w. transitions_of c.args.ticks.start keys ++ w)
+          (sym (steps c.args.ticks.start c.args.ticks.end c.args.position cs next kept.next early c.requires.end))
+          ∙ kept.all);
+      keys = λ count inside all. key_holds c.args.ticks.start next.tick c.args.position count c.key_of.result keys new
           c.requires.position inside kept.next.not_earlier (omega (arith, c.requires.end)) c.key_of.ensures
           c.push_in_room.ensures.items (kept.keys count inside all);
       room = omega (arith, kept.room, c.push_in_room.ensures.room);
@@ -42,15 +43,15 @@ returns-then-len-capacity-clause-no_room_or_too_far c = inr (
     let cs = c.args.wave.now.changes in
     let keys = c.loop-next.keys.items in
     let old = c.args.keys.now.items in
-    let window = window_of_signal c.args.from c.args.to c.args.position in
+    let window = window_of_signal c.args.ticks.start c.args.ticks.end c.args.position in
     omega (
       arith,
       kept.room,
       ap (length {A = Transition}) kept.all,
       ap (length {A = Transition})
-          (steps c.args.from c.args.to c.args.position cs next kept.next (omega arith) c.requires.end),
-      length-append (transitions_of c.args.from keys) (window (drop next.index cs)),
-      length-append (transitions_of c.args.from old) (window cs),
-      length-map keys (transition_of_key c.args.from),
-      length-map old (transition_of_key c.args.from),
+          (steps c.args.ticks.start c.args.ticks.end c.args.position cs next kept.next (omega arith) c.requires.end),
+      length-append (transitions_of c.args.ticks.start keys) (window (drop next.index cs)),
+      length-append (transitions_of c.args.ticks.start old) (window cs),
+      length-map keys (transition_of_key c.args.ticks.start),
+      length-map old (transition_of_key c.args.ticks.start),
     ))

@@ -8,12 +8,13 @@ use Rattle.vcd_text.proofs.writing.window.list_signal.Given as goal
 abbrev pub invariant-loop-next : goal.invariant-loop-next
 invariant-loop-next l =
     record {
-      next : IsNext l.from l.to l.wave.changes l.next;
-      all : transitions_of l.from l.keys.items
-          ++ window_of_signal l.from l.to l.position (drop l.next.index l.wave.changes)
-          ≡ transitions_of l.from l.initial.keys.items ++ window_of_signal l.from l.to l.position l.wave.changes;
-      keys : (count : ℕ) → l.position < count → All (IsKey l.from count) l.initial.keys.items
-          → All (IsKey l.from count) l.keys.items;
+      next : IsNext l.ticks.start l.ticks.end l.wave.changes l.next;
+      all : transitions_of l.ticks.start l.keys.items
+          ++ window_of_signal l.ticks.start l.ticks.end l.position (drop l.next.index l.wave.changes)
+          ≡ transitions_of l.ticks.start l.initial.keys.items
+          ++ window_of_signal l.ticks.start l.ticks.end l.position l.wave.changes;
+      keys : (count : ℕ) → l.position < count → All (IsKey l.ticks.start count) l.initial.keys.items
+          → All (IsKey l.ticks.start count) l.keys.items;
       room : vec_capacity l.initial.keys ≤ vec_capacity l.keys;
     }
 

@@ -25,8 +25,8 @@ returns-clause-next c = λ _. record {
 }
 
 pub returns-clause-all : goal.returns-clause-all
-returns-clause-all c = λ all. all_listed c.args.from c.args.to c.loop-position.position c.args.signals.now _ _
-    (omega arith) c.loop-position.invariant.all
+returns-clause-all c = λ all. all_listed c.args.ticks.start c.args.ticks.end c.loop-position.position
+    c.args.signals.now _ _ (omega arith) c.loop-position.invariant.all
 
 pub loop-position-preserved : goal.loop-position-preserved
 loop-position-preserved c =
@@ -36,11 +36,11 @@ loop-position-preserved c =
     let kept = c.loop-position.invariant in
     let inside : k < length signals = omega arith in
     record {
-      all = one_listed c.args.from c.args.to k signals s _ _ _ inside c.index-signals-position.is
+      all = one_listed c.args.ticks.start c.args.ticks.end k signals s _ _ _ inside c.index-signals-position.is
           c.in-Some.ensures.all kept.all;
       keys = c.list_signal.ensures.keys (length signals) inside kept.keys;
       next_count = length-set c.loop-position.cursors k c.in-Some.next ∙ kept.next_count;
-      passed = passed_next c.args.to k signals c.loop-position.cursors s c.in-Some.next inside kept.next_count
+      passed = passed_next c.args.ticks.end k signals c.loop-position.cursors s c.in-Some.next inside kept.next_count
           c.index-signals-position.is c.in-Some.ensures.next kept.passed;
       room = omega (arith, kept.room, c.list_signal.ensures.room);
     }

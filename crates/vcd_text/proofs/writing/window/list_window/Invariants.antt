@@ -11,12 +11,12 @@ use Rattle.vcd_text.proofs.writing.window.list_window.Given as goal
 abbrev pub invariant-loop-position : goal.invariant-loop-position
 invariant-loop-position l =
     record {
-      all : transitions_of l.from l.keys.items
-          ++ unsorted_window l.from l.to l.position (map signal_contents (drop l.position l.signals))
-          ≡ unsorted_window l.from l.to 0 (map signal_contents l.signals);
-      keys : All (IsKey l.from (length l.signals)) l.keys.items;
+      all : transitions_of l.ticks.start l.keys.items
+          ++ unsorted_window l.ticks.start l.ticks.end l.position (map signal_contents (drop l.position l.signals))
+          ≡ unsorted_window l.ticks.start l.ticks.end 0 (map signal_contents l.signals);
+      keys : All (IsKey l.ticks.start (length l.signals)) l.keys.items;
       next_count : length l.cursors ≡ length l.signals;
       passed : (k : ℕ) (s : Signal) (n : Cursor) → k < l.position
-          → IsNext l.to l.to (get_or l.signals k s).wave.changes (get_or l.cursors k n);
+          → IsNext l.ticks.end l.ticks.end (get_or l.signals k s).wave.changes (get_or l.cursors k n);
       room : vec_capacity l.fn.keys ≤ vec_capacity l.keys;
     }

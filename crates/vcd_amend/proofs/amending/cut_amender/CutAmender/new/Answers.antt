@@ -15,13 +15,13 @@ returns c = (
     holds = subst (λ (l : List HeldChange). ArePieces (last_held l) []) (sym c.new-3.ensures.items) tt;
     lasting = λ code. ap (λ (v : CodeVariables). v.lasts) (c.new-2.ensures code);
     kept = λ code. ap (λ (v : CodeVariables). v.is_kept) (c.new-2.ensures code);
-    is_cut = c.retimed-first.ensures.cut
-        ∙ ap (λ (cs : List CutTicks). is_cut_by cs 0) (sym c.retimed-first.ensures.same);
-    tick = c.retimed-first.ensures.tick
-        ∙ ap (λ (cs : List CutTicks). new_tick (is_cut_by cs) 0) (sym c.retimed-first.ensures.same);
+    is_cut = c.retimed-last.ensures.cut
+        ∙ ap (λ (cs : List CutTicks). is_cut_by cs 0) (sym c.retimed-last.ensures.same);
+    tick = c.retimed-last.ensures.tick
+        ∙ ap (λ (cs : List CutTicks). new_tick (is_cut_by cs) 0) (sym c.retimed-last.ensures.same);
     behind = omega arith;
     scopes = refl;
   },
   c.in_ok-inner.ensures.1,
-  c.retimed-first.ensures.same ∙ c.new-walk.ensures,
+  c.retimed-last.ensures.same ∙ c.new-walk.ensures,
 )

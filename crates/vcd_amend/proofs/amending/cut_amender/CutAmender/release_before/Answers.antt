@@ -14,8 +14,8 @@ unfolding copied_pieces
 returns-then-self-tick-clause-written g c = λ before at.
     let m = c.args.self.now in
     writes_as (sym (ap (λ (b : Bool). copied_pieces (rules_of m.inner) (sent_for (cut_of m) before)
-    (if b then released m.is_cut m.tick (held_for (cut_of m) before) else []))
-    (le-ltb m.tick c.args.tick c.if-self-tick.true))) writes_none
+    (if b then released m.last.is_cut m.last.tick (held_for (cut_of m) before) else []))
+    (le-ltb m.last.tick c.args.tick c.if-self-tick.true))) writes_none
 
 pub returns-clause-at : goal.returns-clause-at
 returns-clause-at g c = λ before at.

@@ -23,30 +23,33 @@ pub returns-then-self-clause-written : goal.returns-then-self-clause-written
 unfolding copied_pieces
 returns-then-self-clause-written g c = λ before p at here.
     let m = c.args.self.now in
-    let step_is = change_step m before at p c.args.is_text c.args.code.now c.args.space.now c.args.body.now here
+    let e = c.args.change in
+    let step_is = change_step m before at p e.is_text e.code.now e.space.now e.body.now here
     ∙ ap (λ (b : Bool). if b then [] else p ∷ []) c.if-self.true in
     writes_as (sym (ap (copied_pieces (rules_of m.inner) (sent_for (cut_of m) before)) step_is)) writes_none
 
 pub returns-then-self-clause-at : goal.returns-then-self-clause-at
 returns-then-self-clause-at g c = λ before p at here.
     let m = c.args.self.now in
+    let e = c.args.change in
     let sent = sent_for (cut_of m) before in
-    change_seen m before at p c.args.is_text c.args.code.now c.args.space.now c.args.body.now here m.inner _ _
+    change_seen m before at p e.is_text e.code.now e.space.now e.body.now here m.inner _ _
     (subst (λ (b : Bool). HasSeen m.inner (sent ++ (if b then [] else p ∷ []))) (sym c.if-self.true)
     (subst (HasSeen m.inner) (sym (append-nil sent)) at.seen))
     (subst (λ (b : Bool). ArePieces (last_held c.hold.new.held.items)
-    (filter (λ q. not (counts_with (has_kept_variable (state_of_pieces 0 before)) (key_of c.args.is_text
-    c.args.code.now) (change_key q.item))) (held_for (cut_of m) before)
+    (filter (λ q. not (counts_with (has_kept_variable (state_of_pieces 0 before)) (key_of e.is_text
+    e.code.now) (change_key q.item))) (held_for (cut_of m) before)
     ++ (if b then p ∷ [] else [])))
-    (c.is_held.ensures ∙ ap (λ (v : CodeVariables). m.is_cut && v.lasts) c.get-variables.ensures)
+    (c.is_held.ensures ∙ ap (λ (v : CodeVariables). m.last.is_cut && v.lasts) c.get-variables.ensures)
     (c.in_ok-hold.ensures (has_kept_variable (state_of_pieces 0 before)) (held_for (cut_of m) before) p
-    (sym (ap (λ (v : CodeVariables). v.is_kept) c.get-variables.ensures ∙ at.kept c.args.code.now)) at.holds here))
+    (sym (ap (λ (v : CodeVariables). v.is_kept) c.get-variables.ensures ∙ at.kept e.code.now)) at.holds here))
 
 pub returns-clause-written : goal.returns-clause-written
 returns-clause-written g c = λ before p at here.
     let m = c.args.self.now in
+    let e = c.args.change in
     let sent = sent_for (cut_of m) before in
-    let step_is = change_step m before at p c.args.is_text c.args.code.now c.args.space.now c.args.body.now here
+    let step_is = change_step m before at p e.is_text e.code.now e.space.now e.body.now here
     ∙ ap (λ (b : Bool). if b then [] else p ∷ []) c.if-self.false in
     writes_as (sym (ap (copied_pieces (rules_of m.inner) sent) step_is))
     (c.put_change.ensures.written sent p at.seen here)
@@ -54,14 +57,15 @@ returns-clause-written g c = λ before p at here.
 pub returns-clause-at : goal.returns-clause-at
 returns-clause-at g c = λ before p at here.
     let m = c.args.self.now in
+    let e = c.args.change in
     let sent = sent_for (cut_of m) before in
-    change_seen m before at p c.args.is_text c.args.code.now c.args.space.now c.args.body.now here _ _ _
+    change_seen m before at p e.is_text e.code.now e.space.now e.body.now here _ _ _
     (subst (λ (b : Bool). HasSeen c.put_change.new.inner (sent ++ (if b then [] else p ∷ []))) (sym c.if-self.false)
     (c.put_change.ensures.seen sent p at.seen here))
     (subst (λ (b : Bool). ArePieces (last_held c.hold.new.held.items)
-    (filter (λ q. not (counts_with (has_kept_variable (state_of_pieces 0 before)) (key_of c.args.is_text
-    c.args.code.now) (change_key q.item))) (held_for (cut_of m) before)
+    (filter (λ q. not (counts_with (has_kept_variable (state_of_pieces 0 before)) (key_of e.is_text
+    e.code.now) (change_key q.item))) (held_for (cut_of m) before)
     ++ (if b then p ∷ [] else [])))
-    (c.is_held.ensures ∙ ap (λ (v : CodeVariables). m.is_cut && v.lasts) c.get-variables.ensures)
+    (c.is_held.ensures ∙ ap (λ (v : CodeVariables). m.last.is_cut && v.lasts) c.get-variables.ensures)
     (c.in_ok-hold.ensures (has_kept_variable (state_of_pieces 0 before)) (held_for (cut_of m) before) p
-    (sym (ap (λ (v : CodeVariables). v.is_kept) c.get-variables.ensures ∙ at.kept c.args.code.now)) at.holds here))
+    (sym (ap (λ (v : CodeVariables). v.is_kept) c.get-variables.ensures ∙ at.kept e.code.now)) at.holds here))

@@ -26,7 +26,7 @@ returns-then-retimed-clause-written g c = λ before p digits at is number sp bo 
     let new = c.args.retimed.tick in
     let sent = sent_for (cut_of m) before in
     let first = released_before m new (held_for (cut_of m) before) in
-    let small : new < 2 ^ 64 = omega (arith, found.tick, is_earlier (cut_of m) c.args.tick, c.ranges.tick.fits) in
+    let small : new < 2 ^ 64 = omega (arith, found.tick, is_earlier (cut_of m) c.args.stamp.tick, c.requires.fits) in
     let step = stamped_step m n before p digits c.args.retimed.is_cut new at is
     c.in_ok-release_before.ensures.cuts
     (found.cut ∙ ap (cut_of m) (sym number)) (found.tick ∙ ap (new_tick (cut_of m)) (sym number)) small
@@ -43,7 +43,7 @@ returns-then-retimed-clause-at g c = λ before p digits at is number sp bo later
     let new = c.args.retimed.tick in
     let has = c.in_ok-release_before.ensures.at before at in
     let all = sent_for (cut_of m) before ++ released_before m new (held_for (cut_of m) before) in
-    let small : new < 2 ^ 64 = omega (arith, found.tick, is_earlier (cut_of m) c.args.tick, c.ranges.tick.fits) in
+    let small : new < 2 ^ 64 = omega (arith, found.tick, is_earlier (cut_of m) c.args.stamp.tick, c.requires.fits) in
     stamped_seen m n before p digits c.args.retimed.is_cut new at is c.in_ok-release_before.ensures.cuts
     (found.cut ∙ ap (cut_of m) (sym number)) (found.tick ∙ ap (new_tick (cut_of m)) (sym number)) small has
     (subst (λ (t : ℕ). (state_of_pieces 0 before).tick ≤ t) (sym number) later) n.inner n.stamp
@@ -71,12 +71,12 @@ returns-clause-written g c = λ before p digits at is number sp bo later.
     let cuts = c.in_ok-release_before.ensures.cuts in
     let b_is = found.cut ∙ ap (cut_of m) (sym number) in
     let new_is = found.tick ∙ ap (new_tick (cut_of m)) (sym number) in
-    let small : new < 2 ^ 64 = omega (arith, found.tick, is_earlier (cut_of m) c.args.tick, c.ranges.tick.fits) in
+    let small : new < 2 ^ 64 = omega (arith, found.tick, is_earlier (cut_of m) c.args.stamp.tick, c.requires.fits) in
     let step = stamped_step m n before p digits c.args.retimed.is_cut new at is cuts b_is new_is small
     ∙ ap (λ (b : Bool). first ++ (if b then [] else q ∷ [])) c.if-retimed.false in
     let upto = before_new m n before p digits c.args.retimed.is_cut new at is cuts b_is new_is small has
     (subst (λ (t : ℕ). (state_of_pieces 0 before).tick ≤ t) (sym number) later) in
-    let here : IsRetimedStamp q new c.args.tick c.args.space.now c.args.body.now = record {
+    let here : IsRetimedStamp q new c.args.stamp.tick c.args.stamp.space.now c.args.stamp.body.now = record {
       p = p;
       digits = digits;
       is = is;
@@ -103,12 +103,12 @@ returns-clause-at g c = λ before p digits at is number sp bo later.
     let cuts = c.in_ok-release_before.ensures.cuts in
     let b_is = found.cut ∙ ap (cut_of m) (sym number) in
     let new_is = found.tick ∙ ap (new_tick (cut_of m)) (sym number) in
-    let small : new < 2 ^ 64 = omega (arith, found.tick, is_earlier (cut_of m) c.args.tick, c.ranges.tick.fits) in
+    let small : new < 2 ^ 64 = omega (arith, found.tick, is_earlier (cut_of m) c.args.stamp.tick, c.requires.fits) in
     let late = subst (λ (t : ℕ). (state_of_pieces 0 before).tick ≤ t) (sym number) later in
     let upto = before_new m n before p digits c.args.retimed.is_cut new at is cuts b_is new_is small has
     late in
     let all = sent_for (cut_of m) before ++ released_before m new (held_for (cut_of m) before) in
-    let here : IsRetimedStamp q new c.args.tick c.args.space.now c.args.body.now = record {
+    let here : IsRetimedStamp q new c.args.stamp.tick c.args.stamp.space.now c.args.stamp.body.now = record {
       p = p;
       digits = digits;
       is = is;
@@ -118,6 +118,6 @@ returns-clause-at g c = λ before p digits at is number sp bo later.
       new = ap (λ (t : ℕ). retimed_stamp_piece new t p) number;
     } in
     stamped_seen m n before p digits c.args.retimed.is_cut new at is cuts b_is new_is small has late
-    c.put_stamp.new.inner c.put_stamp.new.stamp
+    c.put_stamp.new.inner c.put_stamp.new.text
     (subst (λ (b : Bool). HasSeen c.put_stamp.new.inner (all ++ (if b then [] else q ∷ []))) (sym c.if-retimed.false)
     (c.in_ok-put_stamp.ensures.seen all q has.seen here upto))

@@ -20,7 +20,7 @@ finish-requires g c =
     let m = c.args.self.now in
     let sent = sent_for (cut_of m) before in
     let held = held_for (cut_of m) before in (
-      sent ++ released m.is_cut m.tick held,
+      sent ++ released m.last.is_cut m.last.tick held,
       c.in_ok-release.ensures.seen sent held at.seen
           (subst (λ (v : Vec HeldChange). ArePieces (last_held v.items) held) (sym c.replace-held.ensures.value)
           at.holds)
@@ -43,7 +43,7 @@ returns-clause-written g c = on_ok_weaker c.finish.result (λ ends before at.
     let cut = cut_of m in
     let sent = sent_for cut before in
     let held = held_for cut before in
-    let last = released m.is_cut m.tick held in
+    let last = released m.last.is_cut m.last.tick held in
     let are = subst (λ (v : Vec HeldChange). ArePieces (last_held v.items) held) (sym c.replace-held.ensures.value)
     at.holds in
     let is : last ≡ released_pieces cut (state_of_pieces 0 before) held =

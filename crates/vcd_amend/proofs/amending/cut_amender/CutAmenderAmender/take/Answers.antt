@@ -58,7 +58,8 @@ returns-in_ok-note_at_code-in-Variable-clause-written g c = on_ok_weaker c.take_
     let v = next_variable limit before p _ _ _ _ _ taken c.in-Variable.is in
     let ws = v.kind ∷ v.size ∷ v.code ∷ v.names in
     let d = declared_in s v.kind v.size v.code v.names in
-    let piece : p ≡ piece_of_variable c.args.space.now c.args.body.now v.kind v.size v.code v.names =
+    let piece : p ≡ piece_of_variable c.args.ended.now.space.now c.args.ended.now.body.now v.kind v.size v.code v.names
+    =
     λ i. record { item = v.item_is i; space = taken.shown.next.space_is i; body = taken.shown.next.body_is i } in
     let fate : item_fate a s p.item ≡ declaration_fate (fate_of a s.declared d) ws =
     ap (item_fate a s) v.item_is ∙ ap (λ o. variable_item_fate a s.declared o ws) (v.finds s) in
@@ -150,7 +151,7 @@ returns-in-Stamp-clause-seen g c = on_ok_weaker c.take_stamp.result (λ holds li
 pub returns-in-Value-clause-written : goal.returns-in-Value-clause-written
 returns-in-Value-clause-written g c = on_ok_weaker c.take_change.result (λ holds limit before p at taken.
     holds before p at (record {
-      key = key_of_value p.item c.args.code.now (rw c.in-Value.is at taken.shown.shows);
+      key = key_of_value p.item c.args.ended.now.code.now (rw c.in-Value.is at taken.shown.shows);
       space_is = taken.shown.next.space_is;
       body_is = taken.shown.next.body_is;
     })) c.take_change.ensures.written
@@ -158,7 +159,7 @@ returns-in-Value-clause-written g c = on_ok_weaker c.take_change.result (λ hold
 pub returns-in-Value-clause-seen : goal.returns-in-Value-clause-seen
 returns-in-Value-clause-seen g c = on_ok_weaker c.take_change.result (λ holds limit before p at taken.
     holds before p at (record {
-      key = key_of_value p.item c.args.code.now (rw c.in-Value.is at taken.shown.shows);
+      key = key_of_value p.item c.args.ended.now.code.now (rw c.in-Value.is at taken.shown.shows);
       space_is = taken.shown.next.space_is;
       body_is = taken.shown.next.body_is;
     })) c.take_change.ensures.at
@@ -167,7 +168,7 @@ pub returns-in-RealOrString-clause-written : goal.returns-in-RealOrString-clause
 returns-in-RealOrString-clause-written g c = on_ok_weaker c.take_change-in-RealOrString.result
     (λ holds limit before p at taken.
     holds before p at (record {
-      key = key_of_text p.item c.args.code.now (rw c.in-RealOrString.is at taken.shown.shows);
+      key = key_of_text p.item c.args.ended.now.code.now (rw c.in-RealOrString.is at taken.shown.shows);
       space_is = taken.shown.next.space_is;
       body_is = taken.shown.next.body_is;
     })) c.take_change-in-RealOrString.ensures.written
@@ -176,7 +177,7 @@ pub returns-in-RealOrString-clause-seen : goal.returns-in-RealOrString-clause-se
 returns-in-RealOrString-clause-seen g c = on_ok_weaker c.take_change-in-RealOrString.result
     (λ holds limit before p at taken.
     holds before p at (record {
-      key = key_of_text p.item c.args.code.now (rw c.in-RealOrString.is at taken.shown.shows);
+      key = key_of_text p.item c.args.ended.now.code.now (rw c.in-RealOrString.is at taken.shown.shows);
       space_is = taken.shown.next.space_is;
       body_is = taken.shown.next.body_is;
     })) c.take_change-in-RealOrString.ensures.at

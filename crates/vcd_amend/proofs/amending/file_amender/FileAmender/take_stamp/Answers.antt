@@ -10,8 +10,8 @@ use Rattle.vcd_amend.proofs.amending.file_amender.FileAmender.take_stamp.Goals a
 pub returns-clause-written : goal.returns-clause-written
 returns-clause-written g c = λ s none_yet at later.
     writes_both c.write_bytes.ensures.written (writes_both (writes_as (stamp_text c.args.self.now s none_yet at
-    c.as_slice.result.now c.as_slice-2.result.now c.as_slice-3.result.now c.last_stamp.result c.args.tick
-    c.as_slice.ensures.value c.as_slice-2.ensures.value c.as_slice-3.ensures.value c.last_stamp.ensures later)
+    c.as_slice.result.now c.as_slice-2.result.now c.as_slice-3.result.now c.last_stamp-last.result c.args.tick
+    c.as_slice.ensures.value c.as_slice-2.ensures.value c.as_slice-3.ensures.value c.last_stamp-last.ensures later)
     c.write_due_before-self.ensures.written) c.write_bytes-2.ensures.written)
 
 pub returns-clause-at : goal.returns-clause-at

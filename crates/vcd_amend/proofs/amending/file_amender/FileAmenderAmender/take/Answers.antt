@@ -64,7 +64,8 @@ returns-in-Variable-clause-written g c = on_ok_weaker c.take_variable.result (λ
     let v = next_variable limit before p _ _ _ _ _ taken c.in-Variable.is in
     let ws = v.kind ∷ v.size ∷ v.code ∷ v.names in
     let d = declared_in s v.kind v.size v.code v.names in
-    let piece : p ≡ piece_of_variable c.args.space.now c.args.body.now v.kind v.size v.code v.names =
+    let piece : p ≡ piece_of_variable c.args.ended.now.space.now c.args.ended.now.body.now v.kind v.size v.code v.names
+    =
     λ i. record { item = v.item_is i; space = taken.shown.next.space_is i; body = taken.shown.next.body_is i } in
     let fate : item_fate a s p.item ≡ declaration_fate (fate_of a s.declared d) ws =
     ap (item_fate a s) v.item_is ∙ ap (λ o. variable_item_fate a s.declared o ws) (v.finds s) in
@@ -145,7 +146,7 @@ returns-in-Value-clause-written g c = λ limit before p seen taken.
     let a = amendment_contents m.amendment.now in
     let s = before_state before in
     let none = before_none a before in
-    let v = value_is a s none c.args.code.now p.item (rw c.in-Value.is at taken.shown.shows) in
+    let v = value_is a s none c.args.ended.now.code.now p.item (rw c.in-Value.is at taken.shown.shows) in
     writes_as (sym (ap₂ (λ f l. bytes_in_place f (flat_map item_line l) p) v.fate v.inserted))
     (c.take_value.ensures.written s none p seen taken.shown.next.space_is taken.shown.next.body_is)
 
@@ -155,7 +156,7 @@ returns-in-Value-clause-seen g c = λ limit before p seen taken.
     let a = amendment_contents m.amendment.now in
     let s = before_state before in
     let none = before_none a before in
-    let v = value_is a s none c.args.code.now p.item (rw c.in-Value.is at taken.shown.shows) in
+    let v = value_is a s none c.args.ended.now.code.now p.item (rw c.in-Value.is at taken.shown.shows) in
     seen_more c.take_value.new.self a before p _ _ (ap amendment_contents c.take_value.ensures.same) v.state
     (v.still (item_fate a s p.item) ∙ ap (λ f. none && leaves_out f) v.fate)
     (c.take_value.ensures.at s none v.letters seen)
@@ -166,7 +167,7 @@ returns-in-RealOrString-clause-written g c = λ limit before p seen taken.
     let a = amendment_contents m.amendment.now in
     let s = before_state before in
     let none = before_none a before in
-    let code = c.args.code.now in
+    let code = c.args.ended.now.code.now in
     let r = real_is a s none code p.item (rw c.in-RealOrString.is at taken.shown.shows) in
     let used = c.let_real_stand-is_used.ensures.stands s none seen in
     let sp = sym taken.shown.next.space_is in
@@ -180,7 +181,7 @@ returns-in-RealOrString-clause-seen g c = λ limit before p seen taken.
     let a = amendment_contents m.amendment.now in
     let s = before_state before in
     let none = before_none a before in
-    let code = c.args.code.now in
+    let code = c.args.ended.now.code.now in
     let r = real_is a s none code p.item (rw c.in-RealOrString.is at taken.shown.shows) in
     let used = c.let_real_stand-is_used.ensures.stands s none seen in
     seen_more c.let_real_stand-is_used.new.self a before p s _

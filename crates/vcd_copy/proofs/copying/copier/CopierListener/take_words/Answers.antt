@@ -26,6 +26,6 @@ returns-clause-heard g c = both_ok c.copy_words.result c.copy_words.ensures.copi
 
 pub returns-clause-goes_on : goal.returns-clause-goes_on
 returns-clause-goes_on g c = λ start goes. record {
-  same_amender = goes.same_amender;
+  same_amender = c.copy_words.ensures.same_amender ∙ goes.same_amender;
   more = more_both goes.more c.copy_words.ensures.more;
 }

@@ -9,13 +9,14 @@ use Rattle.vcd_copy.proofs.marking.marked.MarkedAmender.take.Goals as goal
 pub take-requires : goal.take-requires
 take-requires g c =
     let (limit, before, p, seen, taken) = c.requires in
-    let plain = plain_next c.args.self.now.mark _ limit before p c.args.item c.args.code.now c.args.space.now
-    c.args.body.now c.mark_before.ensures c.in-None.is taken.shown in (
+    let e = c.args.ended.now in
+    let plain = plain_next c.args.self.now.mark _ limit before p e.item e.code.now e.space.now
+    e.body.now c.mark_before.ensures c.in-None.is taken.shown in (
       limit,
       with_mark (comment_of_mark c.args.self.now.mark) before,
       p,
       seen,
-      plain.taken c.args.item c.args.code.now c.args.scopes.now c.args.space.now c.args.body.now taken,
+      plain.taken e.item e.code.now e.scopes.now e.space.now e.body.now taken,
     )
 
 pub put_mark-requires : goal.put_mark-requires
@@ -26,8 +27,9 @@ put_mark-requires g c =
 pub take_settled-requires : goal.take_settled-requires
 take_settled-requires g c =
     let (limit, before, p, seen, taken) = c.requires in
-    let end = end_next c.args.self.now.mark _ limit before p c.in-Some.mark c.args.item c.args.code.now
-    c.args.scopes.now c.args.space.now c.args.body.now c.mark_before.ensures c.in-Some.is taken in (
+    let e = c.args.ended.now in
+    let end = end_next c.args.self.now.mark _ limit before p c.in-Some.mark e.item e.code.now
+    e.scopes.now e.space.now e.body.now c.mark_before.ensures c.in-Some.is taken in (
       limit,
       end.marked,
       end.after,
@@ -44,8 +46,9 @@ returns-in-Some-clause-more g c =
 
 pub returns-in-Some-clause-written : goal.returns-in-Some-clause-written
 returns-in-Some-clause-written g c = on_ok_weaker c.take_settled.result (λ written limit before p seen taken.
-    let end = end_next c.args.self.now.mark _ limit before p c.in-Some.mark c.args.item c.args.code.now
-    c.args.scopes.now c.args.space.now c.args.body.now c.mark_before.ensures c.in-Some.is taken in
+    let e = c.args.ended.now in
+    let end = end_next c.args.self.now.mark _ limit before p c.in-Some.mark e.item e.code.now
+    e.scopes.now e.space.now e.body.now c.mark_before.ensures c.in-Some.is taken in
     writes_as (sym (end.in_place (g.A.Amender.rules (g.A.Amender.given c.args.self.now.amender))))
     (writes_both (c.put_mark.ensures.written (with_mark (comment_of_mark c.args.self.now.mark) before) seen)
     (writes_as (ap (λ given. (g.A.Amender.rules given).in_place end.marked end.after) c.put_mark.ensures.same)
@@ -55,8 +58,9 @@ returns-in-Some-clause-written g c = on_ok_weaker c.take_settled.result (λ writ
 
 pub returns-in-Some-clause-seen : goal.returns-in-Some-clause-seen
 returns-in-Some-clause-seen g c = on_ok_weaker c.take_settled.result (λ later limit before p seen taken.
-    let end = end_next c.args.self.now.mark _ limit before p c.in-Some.mark c.args.item c.args.code.now
-    c.args.scopes.now c.args.space.now c.args.body.now c.mark_before.ensures c.in-Some.is taken in
+    let e = c.args.ended.now in
+    let end = end_next c.args.self.now.mark _ limit before p c.in-Some.mark e.item e.code.now
+    e.scopes.now e.space.now e.body.now c.mark_before.ensures c.in-Some.is taken in
     subst (g.A.Amender.has_seen c.take_settled.new.amender) (sym end.more)
     (later limit end.marked end.after
     (subst (g.A.Amender.has_seen c.put_mark.new.amender) (sym end.marked_is)
@@ -64,17 +68,19 @@ returns-in-Some-clause-seen g c = on_ok_weaker c.take_settled.result (λ later l
 
 pub returns-in-None-clause-written : goal.returns-in-None-clause-written
 returns-in-None-clause-written g c = on_ok_weaker c.take.result (λ written limit before p seen taken.
-    let plain = plain_next c.args.self.now.mark _ limit before p c.args.item c.args.code.now c.args.space.now
-    c.args.body.now c.mark_before.ensures c.in-None.is taken.shown in
+    let e = c.args.ended.now in
+    let plain = plain_next c.args.self.now.mark _ limit before p e.item e.code.now e.space.now
+    e.body.now c.mark_before.ensures c.in-None.is taken.shown in
     writes_as (sym (plain.in_place (g.A.Amender.rules (g.A.Amender.given c.args.self.now.amender))))
     (written limit _ p seen
-    (plain.taken c.args.item c.args.code.now c.args.scopes.now c.args.space.now c.args.body.now taken)))
+    (plain.taken e.item e.code.now e.scopes.now e.space.now e.body.now taken)))
     c.take.ensures.written
 
 pub returns-in-None-clause-seen : goal.returns-in-None-clause-seen
 returns-in-None-clause-seen g c = on_ok_weaker c.take.result (λ later limit before p seen taken.
-    let plain = plain_next c.args.self.now.mark _ limit before p c.args.item c.args.code.now c.args.space.now
-    c.args.body.now c.mark_before.ensures c.in-None.is taken.shown in
+    let e = c.args.ended.now in
+    let plain = plain_next c.args.self.now.mark _ limit before p e.item e.code.now e.space.now
+    e.body.now c.mark_before.ensures c.in-None.is taken.shown in
     subst (g.A.Amender.has_seen c.take.new.self) (sym plain.more) (later limit _ p seen
-    (plain.taken c.args.item c.args.code.now c.args.scopes.now c.args.space.now c.args.body.now taken)))
+    (plain.taken e.item e.code.now e.scopes.now e.space.now e.body.now taken)))
     c.take.ensures.seen

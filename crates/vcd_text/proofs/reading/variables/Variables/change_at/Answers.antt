@@ -11,13 +11,13 @@ pub change_wave-requires : goal.change_wave-requires
 change_wave-requires c =
     let (state, code, k, later, had) = c.requires.known in
     record {
-      none_later = wave_late _ _ code c.args.digits.now _ _ k had _ _ c.index_mut.ensures.value later;
+      none_later = wave_late _ _ code c.args.change.now.digits.now _ _ k had _ _ c.index_mut.ensures.value later;
     }
 
 pub returns-then-width-gt64-clause-changed : goal.returns-then-width-gt64-clause-changed
 returns-then-width-gt64-clause-changed c = λ state code tick k had.
     let old = c.args.self.now in
-    let digits = c.args.digits.now in
+    let digits = c.args.change.now.digits.now in
     let v = c.index_mut.result.now in
     wide_changes _ (with_item old.kept c.args.first c.change_wave.new.self) _ _ digits _ _ v c.change_wave.new.self
     c.change_wave.result k had c.index_mut.ensures.value (inl c.if-width-gt64.true) refl (rw tick
@@ -30,22 +30,23 @@ returns-in_err-block-clause-changed c = λ state code tick k had. rw (err_is _ c
 pub returns-clause-changed : goal.returns-clause-changed
 returns-clause-changed c = λ state code tick k had.
     let e : LoggedChange =
-    record { tick = c.args.tick; position = c.args.first; block = c.in_ok-block.block } in
-    narrow_changes c.args.self.now c.append.new.groups state code c.args.digits.now c.args.width c.args.first e k had
-    (omega (arith, c.if-width-gt64.false)) (sym tick) refl c.in_ok-block.ensures c.in_ok-append.ensures.grouped
+    record { tick = c.args.change.now.tick; position = c.args.first; block = c.in_ok-block.block } in
+    narrow_changes c.args.self.now c.append.new.groups state code c.args.change.now.digits.now c.args.width c.args.first
+    e k had (omega (arith, c.if-width-gt64.false)) (sym tick) refl c.in_ok-block.ensures c.in_ok-append.ensures.grouped
     c.in_ok-append.ensures.appended tt
 
 pub change_wave-requires-then-is_empty : goal.change_wave-requires-then-is_empty
 change_wave-requires-then-is_empty c =
     let (state, code, k, later, had) = c.requires.known in
     record {
-      none_later = wave_late _ _ code c.args.digits.now _ _ k had _ _ c.index_mut-then-is_empty.ensures.value later;
+      none_later = wave_late _ _ code c.args.change.now.digits.now _ _ k had _ _
+          c.index_mut-then-is_empty.ensures.value later;
     }
 
 pub returns-then-is_empty-clause-changed : goal.returns-then-is_empty-clause-changed
 returns-then-is_empty-clause-changed c = λ state code tick k had.
     let old = c.args.self.now in
-    let digits = c.args.digits.now in
+    let digits = c.args.change.now.digits.now in
     let v = c.index_mut-then-is_empty.result.now in
     wide_changes _ (with_item old.kept c.args.first c.change_wave-then-is_empty.new.self) _ _ digits _ _ v
     c.change_wave-then-is_empty.new.self c.change_wave-then-is_empty.result k had

@@ -1,0 +1,3 @@
+-- Lemmas of `found_mark`.
+pub mod WordBytes
+pub mod LinesSaid

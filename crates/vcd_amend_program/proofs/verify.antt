@@ -1,0 +1,3 @@
+-- Lemmas of `verify`.
+pub mod WrittenBytes
+pub mod AskedByMarks

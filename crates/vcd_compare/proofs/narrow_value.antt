@@ -1,0 +1,2 @@
+-- Lemmas of `narrow_value`.
+pub mod Blocks

@@ -1,0 +1,3 @@
+-- Lemmas of `compared`.
+pub mod ShownBytes
+pub mod SameBytes

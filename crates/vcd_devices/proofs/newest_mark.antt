@@ -1,0 +1,2 @@
+-- Lemmas of `newest_mark`.
+pub mod KeptMarks

@@ -1,0 +1,2 @@
+-- Lemmas that other crates need.
+pub mod WholeFiles

@@ -1,0 +1,3 @@
+-- Definitions that only contracts of private functions and proofs cite. A reader need not believe
+-- them.
+pub mod KeptMarks
