@@ -84,6 +84,11 @@ def toggling(changes, declared="$var wire 1 ! x $end\n", first="0!\n"):
     return declared + "$enddefinitions $end\n#0\n" + first + stamps
 
 
+def paths_below(folder):
+    """The paths of all files and folders below a folder."""
+    return sorted(os.path.join(place, name) for place, *names in os.walk(folder) for name in sum(names, []))
+
+
 def run(words, text=True, timeout=SECONDS, **how):
     """(status, standard output, standard error) of a program, as text or as bytes. One that takes longer is ended, and
     has the status 124, as `timeout` gives."""

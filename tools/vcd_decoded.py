@@ -52,7 +52,11 @@ def outcome_of(tool, options, source, words=()):
     above = dict.fromkeys(options.lines[: max(edits, default=0)])
     again = [line for line in above if vcd_runs.command_of(line) in vcd_runs.DECODERS]
     with vcd_runs.Run(source, [*options.lines, b"list", *again], words) as run:
-        first, (replies, remarks), others = run.listing(), said_of(run), TOLD.findall(run.told())
+        first, replies, remarks = run.listing(), [[] for _ in run.lines], [[] for _ in run.lines]
+        for found, places in (run.replies, replies), (run.remarks, remarks):
+            for place, text in found():
+                places[place].append(text)
+        others = TOLD.findall(run.told())
     lines, told = run.lines[: len(commands)], []
     want_no_refusal(tool, lines, replies, first, source)
     decoded, at_end = [], dict(zip(run.lines[len(lines) + 1 :], replies[len(lines) + 1 :]))
@@ -64,15 +68,6 @@ def outcome_of(tool, options, source, words=()):
     for text in [] if options.quiet else told + others:
         vcd_files.tell(tool, text)
     return Outcome(edits, first, vcd_runs.listing_of(replies[len(lines)]), decoded)
-
-
-def said_of(run):
-    """The replies to each line of a run, and the remarks on it."""
-    replies, remarks = [[] for _ in run.lines], [[] for _ in run.lines]
-    for found, places in ((run.replies, replies), (run.remarks, remarks)):
-        for place, text in found():
-            places[place].append(text)
-    return replies, remarks
 
 
 def want_no_refusal(tool, lines, replies, listing, source):

@@ -38,24 +38,19 @@ def short(text):
 
 
 def told_end(errors, file):
-    """Lines about a run on a file that did not end well, by its standard error. The reason may stand behind others."""
+    """Lines about a run on an open file that did not end well, by what it told. The reason may stand behind others."""
     lines = [re.sub("^vcdedit(-amend)?: ", "", line) for line in errors.splitlines()]
     *before, last = lines or ["vcdedit does not say why it ended"]
     reason = next((line for line in lines if line.startswith("error: ")), last)
     fault = re.fullmatch(r"capture line ([0-9]+): (\w+)", reason)
     if fault:
         others = [line.partition("capture: ")[2] for line in before if line.startswith("capture: ")]
-        return others or told_fault(file, int(fault[1]), fault[2])
+        file.seek(0)
+        line = short(next(itertools.islice(file, int(fault[1]) - 1, None), b""))
+        return others or ["line %s: %s: %s" % (fault[1], line, fault[2]), MEANINGS.get(("fault", fault[2]), "")]
     if reason == "out of memory":
         before.append(MEANINGS["fault", "NoMemory"])
     return [reason, *before] if reason == last else [reason]
-
-
-def told_fault(file, number, name):
-    """Lines about the fault of a capture, which is open for bytes."""
-    file.seek(0)
-    line = next(itertools.islice(file, number - 1, None), b"")
-    return ["line %d: %s: %s" % (number, short(line), name), MEANINGS.get(("fault", name), "")]
 
 
 @functools.lru_cache(None)

@@ -49,11 +49,6 @@ def copies_of(old, window, gone, kept):
     return [(one, other) for one in changing for other in kept if sums.get(other) == sums[one]]
 
 
-def own(name):
-    """A name without its scopes and its range."""
-    return name.partition(b"[")[0].rpartition(b".")[2]
-
-
 def forced_in(lines, listing):
     """The names of the signals that lines force over all ticks."""
     forces = (words for words in map(bytes.split, lines) if words[:1] == [b"force"] and len(words) == 5)
@@ -65,6 +60,8 @@ def traces_of(source, file, forced, has_window):
     """Lines about what a new file shows of variables of its source that it has no more, where that was looked for, and
     about the real and string changes of signals that were forced over all ticks."""
     (old, new), gone, owns, reals = map(Declared, (source, file)), {}, collections.defaultdict(list), collections.Counter()
+    # A name without its scopes and its range.
+    own = lambda name: name.partition(b"[")[0].rpartition(b".")[2]
     listed, others = lambda names: shown(b", ".join(names)), {own(name) for name in new.all}
     for code, names in old.names.items():
         missing = [name for name in names if name not in new.all]

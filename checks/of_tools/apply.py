@@ -13,7 +13,7 @@ import unittest.mock
 
 import vcd_runs
 import vcd_traces
-from common import IS_UNPROVED, TOP, load, module_of, run, same, store, store_program, toggling
+from common import IS_UNPROVED, TOP, load, module_of, paths_below, run, same, store, store_program, toggling
 from vcd_files import VERSION
 
 APPLY = os.path.join(TOP, "tools/vcdedit-apply")
@@ -60,7 +60,6 @@ RUNS = [
     ("script A --into A/x --dry-run", 4, ["A: not written: FOLDER/A is no folder in which files may be made"], {}),
     ("script " + shlex.quote("./" + ODD), 0, ["./\N{EURO SIGN} odd\\x0a-name: written: 1 ok"], {ODD: DONE}),
     ("some A", 1, ["A:1: 0", "A: as it was: 1 line refused"], {}, "A: some line 2: undo: NothingToUndo\n"),
-    ("some A --keep-going", 1, ["A:1: 0", "A: written: 1 ok, 1 line refused"], {"A": DONE}, "A: some line 2: undo: "),
     ("timed A --dry-run", 0, ["A: would be written: 1 ok"], {}, "A: timed line 1: carried out as: shift tb.rx 3\n"),
     ("timed A --dry-run -q", 0, ["A: would be written: 1 ok"], {}),
     ("wild A", 1, ["A: as it was: 2 lines refused"], {}, "A: wild line 1: value xx",
@@ -122,7 +121,8 @@ REFUSED = [
     ("invert @7", "the capture has 2 signals"),
     ("Invert tb.rx", "is invert meant?"), ("value tb.rx", "usage: value NAME TICK"),
     ("derive both and tb.rx", "usage: derive WORD not A"),
-    ("\N{BYTE ORDER MARK}invert tb.rx", r"line 1: \xef\xbb\xbfinvert tb.rx: UnknownCommand"), ("cut 60 200", "200: BadRange", "TO is past the end"),
+    ("\N{BYTE ORDER MARK}invert tb.rx", r"line 1: \xef\xbb\xbfinvert tb.rx: UnknownCommand"),
+    ("cut 60 200", "200: BadRange", "TO is past the end"),
 ]
 # A capture with copies of a key, its name in comments and in a scope, and a string of another signal.
 GIVEN = """$comment the key is 0x2a $end
@@ -186,9 +186,8 @@ class Folder:
 
     def files(self):
         """{path: text and mode} of all regular files."""
-        found = (os.path.join(place, name) for place, _, names in os.walk(self.folder) for name in names)
         return {os.path.relpath(path, self.folder): (load(path).decode("latin-1"), os.stat(path).st_mode & 0o777)
-                for path in found if os.path.isfile(path) and not os.path.islink(path)}
+                for path in paths_below(self.folder) if os.path.isfile(path) and not os.path.islink(path)}
 
     def run(self, words, **how):
         """(status, lines, what is told) of the tool, after words of a shell."""

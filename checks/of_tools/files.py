@@ -60,8 +60,8 @@ def long_ones():
             found = list(one.replies())
         yield "many long lines %s" % line, found == [(place, reply) for place in range(count) for reply in said]
     reads = unittest.mock.Mock(wraps=io.BytesIO(b"x" * (200 * vcd_files.CHUNK) + b" y"))
-    yield same("a long word", list(map(len, vcd_files.words_of(reads))), [200 * vcd_files.CHUNK, 1])
-    yield "reads of a long word", reads.read.call_count < 20
+    found = list(map(len, vcd_files.words_of(reads))), reads.read.call_count < 20
+    yield same("a long word, in few reads", found, ([200 * vcd_files.CHUNK, 1], True))
 
 
 def check():

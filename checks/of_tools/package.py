@@ -3,7 +3,7 @@
 import os
 import re
 
-from common import SKIPPED, TOP, lay_out, run, same, store, text_at, tools_missing
+from common import SKIPPED, TOP, lay_out, paths_below, run, same, store, text_at, tools_missing
 
 # Half a second is not enough on a busy machine, so that a check of names waits longer.
 COMPLETE = """source <(sed 's/timeout 0.5/timeout 20/' "$1"); shift
@@ -22,11 +22,6 @@ DOCUMENTS = ["CHANGELOG.md", "COOKBOOK.md", "SCRIPT.md", "FORMATS.md", "messages
 INSTALLED = [*DOCUMENTS, *(file % command for command in COMMANDS for file in FILES)]
 
 
-def files_in(folder):
-    """The files and folders below a folder."""
-    return sorted(os.path.join(place, name) for place, folders, names in os.walk(folder) for name in folders + names)
-
-
 def are_whole(paths):
     return all(any(path.endswith("/" + end) for path in paths) for end in INSTALLED)
 
@@ -41,16 +36,16 @@ def installs(folder):
     is_told = all("make " + target in shown for target in ("install", "uninstall", "deb"))
     yield "make says what else there is", status == 0 and is_told
     for words in (["PREFIX=here it is"], ["PREFIX=/", "DESTDIR=%s/root" % folder]):
-        before = files_in(folder)
+        before = paths_below(folder)
         status = run(["make", "install", *words], cwd=folder)[0]
-        added = [path for path in files_in(folder) if path not in before]
+        added = [path for path in paths_below(folder) if path not in before]
         yield "install %s" % words, status == 0 and are_whole(added)
         if words == ["PREFIX=here it is"]:
             yield from run_from_anywhere(os.path.join(folder, "here it is/bin"))
             yield from explains_tools(os.path.join(folder, "here it is/bin"))
         run(["make", "install", *words], cwd=folder)
         run(["make", "uninstall", *words], cwd=folder)
-        yield "uninstall %s" % words, files_in(folder) == before
+        yield "uninstall %s" % words, paths_below(folder) == before
 
 
 def packs(folder):

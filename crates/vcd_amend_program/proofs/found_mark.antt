@@ -1,3 +1,2 @@
 -- Lemmas of `found_mark`.
-pub mod WordBytes
 pub mod LinesSaid

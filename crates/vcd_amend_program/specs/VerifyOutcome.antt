@@ -1,10 +1,12 @@
 -- How a marked file is compared with what its mark makes of a capture. The rules are the project's
 -- own.
-use Rattle.std.specs.Prelude.{◌≡◌, ◌++◌, ℕ, Bool, true, false, List, [], ◌∷◌, codes}
+use Rattle.std.specs.Prelude.{◌≡◌, ℕ, Bool, true, false, List, [], ◌∷◌, codes, drop}
 use Rattle.std.specs.Prelude.{Option, Some, None, IfSome, Result, Ok, Err, MatchBool}
 use Rattle.std.specs.Result.{MatchResult}
+use Rattle.std.specs.List.{join_with_byte}
 use Rattle.clap.specs.Words.{Text}
 use Rattle.vcd_core.specs.Devices.{DeviceEnd}
+use Rattle.vcd_copy.specs.MarkText.{escaped_word, read_words}
 use Rattle.vcd_copy.specs.declared.marking.head.MarkHead.{MarkHead}
 use Rattle.vcd_script.specs.declared.running.run_error.Summary.{Summary}
 use Rattle.vcd_script.specs.Run.{RunOutcome}
@@ -17,8 +19,7 @@ use Rattle.vcd_amend_program.specs.declared.amend_error.AmendError.{AmendError}
 use Rattle.vcd_amend_program.specs.declared.amend_error.AmendError.TheVariants as errors
 use Rattle.vcd_amend_program.specs.CommandLine.{AskedOptions, ask_for_part}
 use Rattle.vcd_amend_program.specs.CommandLine.{ask_for_more_than_verify}
-use Rattle.vcd_amend_program.specs.FoundMarks.{first_of, said_after, script_of, sum_text}
-use Rattle.vcd_amend_program.specs.FoundMarks.{unescaped}
+use Rattle.vcd_amend_program.specs.FoundMarks.{first_line, said_after, script_of}
 use Rattle.vcd_amend_program.specs.Marks.{part_lines}
 use Rattle.vcd_amend_program.specs.PartOutcome.{IsRequest, IsTaken}
 use Rattle.vcd_amend_program.specs.ProgramEnds.{IsAskedRun, capture_path}
@@ -45,36 +46,32 @@ asked_by depth path mark = record {
   is_all_or_nothing = true;
   keep = values_said (said_after (codes "part keep ") mark);
   remove = values_said (said_after (codes "part remove ") mark);
-  from = first_of (said_after (codes "part from ") mark);
-  to = first_of (said_after (codes "part to ") mark);
+  from = first_line (said_after (codes "part from ") mark);
+  to = first_line (said_after (codes "part to ") mark);
 }
 
--- the head of a mark: the version and the name are those that its first lines say, and so are the
--- size and the SHA-256; its part is the one that these options ask for
+-- the head of a mark: its lines on the program and on what was read are those of this head, whose
+-- part is the one that these options ask for
 pub record IsHeadOf (mark : List ℕ) (o : AskedOptions) (head : MarkHead) : Type 0 where
-  pub title : List ℕ
-  pub word : List ℕ
-  pub first : first_of (said_after (codes " ") mark) ≡ Some title
-  pub second : first_of (said_after (codes "read ") mark)
-      ≡ Some (word ++ sum_text head.size head.digest.now)
-  pub version : head.version.now ≡ unescaped title
-  pub name : head.name.now ≡ unescaped word
+  pub title : first_line (said_after (codes " ") mark) ≡ Some (escaped_word head.version.now)
+  pub read : first_line (said_after (codes "read ") mark)
+      ≡ Some (join_with_byte 32 (drop 1 (read_words head)))
   pub part : head.part.now ≡ part_lines o
 
 -- ---- how it ends
 
--- a marked file that shows these bytes is the same: if every pass shows one file, the run of this
--- script on it writes just these bytes
-abbrev pub IsSame : RunOptions → PassEnds → (script : List ℕ) → (marked : Option (List ℕ))
-    → Type 0
-IsSame run passes script marked = (file : List ℕ) → AllShow passes file → (written : RunOutcome)
-    × IsMarkedRun run.mark file script run.depth written
+-- what a marked file shows is the output of a marked run: if every pass shows one file, the run of
+-- this script on it writes just these bytes
+abbrev pub IsMarkedOutput : RunOptions → PassEnds → (script : List ℕ)
+    → (marked : Option (List ℕ)) → Type 0
+IsMarkedOutput run passes script marked = (file : List ℕ) → AllShow passes file
+    → (written : RunOutcome) × IsMarkedRun run.mark file script run.depth written
     × IfSome marked (λ bytes. bytes ≡ written.output)
 
 -- the same of some passes, and of some marked file
-abbrev pub IsSameOnDevices : RunOptions → (script : List ℕ) → Type 0
-IsSameOnDevices run script =
-    (passes : PassEnds) × (marked : Option (List ℕ)) × IsSame run passes script marked
+abbrev pub IsMarkedOutputOnDevices : RunOptions → (script : List ℕ) → Type 0
+IsMarkedOutputOnDevices run script =
+    (passes : PassEnds) × (marked : Option (List ℕ)) × IsMarkedOutput run passes script marked
 
 -- a part was taken of some capture
 abbrev pub IsTakenFrom : Request → Type 0
@@ -85,18 +82,20 @@ IsTakenFrom r = (capture : DeviceEnd) × (out : DeviceEnd) × (written : Written
 abbrev pub IsPartTaken : AskedOptions → Type 0
 IsPartTaken o = (r : Request) × IsRequest o r × IsTakenFrom r
 
--- what it means that a marked file is the same: its mark asks for a run, and that writes its bytes
-pub record IsVerified (depth : ℕ) : Type 0 where
-  pub mark : List ℕ
-  pub path : Text
+-- these options ask for a run with the head of this mark, and that writes the marked file
+pub record IsRunOfMark (mark : List ℕ) (o : AskedOptions) : Type 0 where
   pub head : MarkHead
-  pub says : IsHeadOf mark (asked_by depth path mark) head
+  pub says : IsHeadOf mark o head
   pub run : RunOptions
-  pub asked : IsAskedRun (asked_by depth path mark) run
+  pub asked : IsAskedRun o run
   pub headed : run.mark ≡ Some head
-  pub part : ask_for_part (asked_by depth path mark) ≡ true
-      → IsPartTaken (asked_by depth path mark)
-  pub same : IsSameOnDevices run (script_of mark)
+  pub part : ask_for_part o ≡ true → IsPartTaken o
+  pub same : IsMarkedOutputOnDevices run (script_of mark)
+
+-- what it means that a marked file is the same: its mark asks for a run, and that writes its bytes
+abbrev pub IsVerified : (depth : ℕ) → Type 0
+IsVerified depth =
+    (mark : List ℕ) × (path : Text) × IsRunOfMark mark (asked_by depth path mark)
 
 -- an error of a comparison: none of the options, nor of an output
 abbrev pub is_verify_error : AmendError → Bool

@@ -1,11 +1,13 @@
 //! What a mark says, line by line.
 
-ghost use Rattle.std.specs.Prelude.{◌≡◌, ◌<◌, ◌∷◌, [], length, map, None, MatchOption, IfOk, IfErr};
+ghost use Rattle.std.specs.Prelude.{◌≡◌, ◌<◌, ◌∷◌, [], length, map, MatchOption, IfOk, IfErr};
 ghost use Rattle.std.specs.Option.{option_copied};
+ghost use Rattle.vcd_copy.specs.MarkText.{escaped_word};
 ghost use Rattle.vcd_amend_program.specs.FoundMarks as spec;
 ghost use Rattle.vcd_amend_program.specs.VerifyOutcome.{IsVerifyError};
 
 use crate::amend_error::{AmendError, NO_MARK, NO_MEMORY};
+use crate::mark_words::unescaped;
 use std::alloc::Global;
 use std::str;
 use vcd_core::NoMemory;
@@ -31,7 +33,7 @@ pub fn line_after<'m>(mark: &'m [u8], first: &[u8]) -> Option<(&'m [u8], &'m [u8
 /// The text of the first such line.
 pub fn text_after<'m>(mark: &'m [u8], first: &[u8]) -> Result<Option<&'m str>, AmendError>
     ensures text { IfOk result (λ text.
-        option_copied text ≡ spec.first_of (spec.said_after first.now mark.now)) }
+        option_copied text ≡ spec.first_line (spec.said_after first.now mark.now)) }
     ensures fault { IfErr result IsVerifyError }
 {
     match line_after(mark, first) {
@@ -91,44 +93,13 @@ fn text_of(line: &[u8]) -> Result<&str, AmendError>
 }
 
 /// The bytes that a word of a mark stands for.
-pub fn unescaped(alloc: Global, word: &[u8]) -> Result<Vec<u8>, NoMemory>
-    ensures { IfOk result (λ bytes. bytes.items ≡ spec.unescaped word.now) }
+pub fn bytes_of(alloc: Global, word: &[u8]) -> Result<Vec<u8>, AmendError>
+    ensures bytes { IfOk result (λ bytes. word.now ≡ escaped_word bytes.items) }
+    ensures fault { IfErr result IsVerifyError }
 {
-    let mut bytes = Vec::new(alloc);
-    let mut rest = word;
-    while let Some((byte, following)) = split_byte(rest) {
-        bytes.push(byte)?;
-        rest = following;
+    match unescaped(alloc, word) {
+        Ok(Some(bytes)) => Ok(bytes),
+        Ok(None) => Err(NO_MARK),
+        Err(_) => Err(NO_MEMORY),
     }
-    Ok(bytes)
-}
-
-/// The first byte that a word of a mark stands for, and what follows it.
-fn split_byte(word: &[u8]) -> Option<(u8, &[u8])>
-    ensures { MatchOption result (word.now ≡ []) (λ parts.
-        (spec.unescaped word.now ≡ parts.0 ∷ spec.unescaped parts.1.now)
-        × (length parts.1.now < length word.now)) }
-{
-    let (first, rest) = word.split_first()?;
-    if *first != b'%' || rest.len() < 2 {
-        return Some((*first, rest));
-    }
-    Some((byte_of(rest[0], rest[1]), &rest[2..]))
-}
-
-/// The byte of two hexadecimal digits.
-fn byte_of(high: u8, low: u8) -> u8
-    ensures { result ≡ spec.byte_of high low }
-{
-    digit(high).wrapping_mul(16).wrapping_add(digit(low))
-}
-
-/// The number of a hexadecimal digit.
-fn digit(digit: u8) -> u8
-    ensures { result ≡ spec.digit digit }
-{
-    if digit < 97 {
-        return digit.saturating_sub(48);
-    }
-    digit - 87
 }

@@ -11,6 +11,7 @@ mod command_line;
 mod found_mark;
 mod inputs;
 mod job;
+mod mark_words;
 mod near;
 mod part;
 mod part_remarks;

@@ -7,16 +7,17 @@ ghost use Rattle.vcd_journal.specs.declared.step.TheConstants.{DEPTH_LIMIT};
 ghost use Rattle.vcd_part.specs.Requests.{texts};
 ghost use Rattle.vcd_amend_run.specs.AmendRunEnds.{AreReady, pass_ends};
 ghost use Rattle.vcd_amend_program.specs.CommandLine.{ask_for_part, options_in};
-ghost use Rattle.vcd_amend_program.specs.FoundMarks.{script_of, sum_text};
+ghost use Rattle.vcd_copy.specs.MarkText.{escaped_word};
+ghost use Rattle.vcd_amend_program.specs.FoundMarks.{script_of};
 ghost use Rattle.vcd_amend_program.specs.VerifyOutcome as spec;
 ghost use Rattle.vcd_amend_program.specs.inside.Jobs.{HasDepth, IsReady};
-ghost use Rattle.vcd_amend_program.specs.inside.Comparisons.{IsFoundHead, IsComparedAsked};
-ghost use Rattle.vcd_amend_program.specs.inside.Comparisons.{IsPartSaid};
+ghost use Rattle.vcd_amend_program.specs.inside.Comparisons.{IsFoundHead, IsPartSaid};
+ghost use Rattle.vcd_amend_program.specs.inside.Comparisons.{sum_text};
 
 use crate::amend_error::{AmendError, NO_MARK, NO_MEMORY, NO_PART_FILE, NOT_READ, NOT_VERIFIED};
 use crate::capture_mark::{CaptureDigest, digest_of, part_lines};
 use crate::command_line::Options;
-use crate::found_mark::{line_after, script_of, text_after, texts_after, unescaped};
+use crate::found_mark::{bytes_of, line_after, script_of, text_after, texts_after};
 use crate::job::{Job, PartJob, run_of};
 use crate::part::{create_part_file, hold_part, on_part_file};
 use crate::part_words::request_of;
@@ -49,7 +50,8 @@ struct Marked<'r> {
 struct FoundHead {
     version: Vec<u8>,
     name: Vec<u8>,
-    capture: CaptureDigest,
+    size: u64,
+    digest: Vec<u8>,
 }
 
 /// What a mark says of the part that was taken, by the values of options.
@@ -88,6 +90,22 @@ fn run_comparison<R: Runtime<File = File> + AllocGlobal>(
     requires most { depth ≤ DEPTH_LIMIT }
     ensures { spec.IsOutcomeOfComparison depth result }
 {
+    compare_paths(rt, capture, path, depth)?;
+    tell_same(&mut ToWrite::new(io::writer(rt)))
+}
+
+/// Compares the marked file at a path with what its mark makes of the capture.
+fn compare_paths<R: Runtime<File = File> + AllocGlobal>(
+    rt: &R,
+    capture: &str,
+    path: &str,
+    depth: u64,
+) -> Result<(), AmendError>
+    requires least { 1 ≤ depth }
+    requires most { depth ≤ DEPTH_LIMIT }
+    ensures verified { OnOk result (spec.IsVerified depth) }
+    ensures fault { IfErr result spec.IsVerifyError }
+{
     let capture = find_capture(rt, capture)?;
     let Ok(file) = find_capture(rt, path) else {
         return Err(NOT_VERIFIED);
@@ -98,7 +116,7 @@ fn run_comparison<R: Runtime<File = File> + AllocGlobal>(
         mark: mark.as_slice(),
     };
     compare_marked(rt, capture, marked, depth)?;
-    tell_same(&mut ToWrite::new(io::writer(rt)))
+    Ok(())
 }
 
 /// The text of the newest mark of a file.
@@ -134,7 +152,7 @@ fn compare_marked<R: Runtime<File = File> + AllocGlobal>(
     let head = find_head(rt, capture, marked.mark)?;
     let part = part_said(rt.alloc(), marked.mark)?;
     let options = options_said(capture.path(), depth, &part);
-    compare_asked(rt, capture, marked, head, &options)?;
+    compare_asked(rt, capture, marked, &head, &options)?;
     Ok(())
 }
 
@@ -186,7 +204,7 @@ fn find_head<R: Runtime<File = File> + AllocGlobal>(
     capture: SeenFile<'_>,
     mark: &[u8],
 ) -> Result<FoundHead, AmendError>
-    ensures head { IfOk result (λ head. IsFoundHead mark.now head) }
+    ensures head { IfOk result (IsFoundHead mark.now) }
     ensures fault { IfErr result spec.IsVerifyError }
 {
     let (Some((title, _)), Some((read, _))) = (line_after(mark, b" "), line_after(mark, b"read "))
@@ -195,10 +213,32 @@ fn find_head<R: Runtime<File = File> + AllocGlobal>(
     };
     let found = digest_of(rt, capture)?;
     let name = name_before_sum(rt.alloc(), read, &found)?;
+    let head = head_of_words(rt.alloc(), title, name, &found)?;
+    Ok(head)
+}
+
+/// The head with these words for the version and the name, of a capture that has this digest.
+fn head_of_words(
+    alloc: Global,
+    version: &[u8],
+    name: &[u8],
+    capture: &CaptureDigest,
+) -> Result<FoundHead, AmendError>
+    ensures version { IfOk result (λ head. version.now ≡ escaped_word head.version.items) }
+    ensures name { IfOk result (λ head. name.now ≡ escaped_word head.name.items) }
+    ensures size { IfOk result (λ head. head.size ≡ capture.now.size) }
+    ensures digest { IfOk result (λ head.
+        string_bytes capture.now.digest ≡ escaped_word head.digest.items) }
+    ensures fault { IfErr result spec.IsVerifyError }
+{
+    let version = bytes_of(alloc, version)?;
+    let name = bytes_of(alloc, name)?;
+    let digest = bytes_of(alloc, capture.digest.as_bytes())?;
     Ok(FoundHead {
-        version: unescaped(rt.alloc(), title).map_err(|_| NO_MEMORY)?,
-        name: unescaped(rt.alloc(), name).map_err(|_| NO_MEMORY)?,
-        capture: found,
+        version,
+        name,
+        size: capture.size,
+        digest,
     })
 }
 
@@ -207,17 +247,17 @@ fn compare_asked<'r, R: Runtime<File = File> + AllocGlobal>(
     rt: &R,
     capture: SeenFile<'r>,
     marked: Marked<'_>,
-    head: FoundHead,
+    head: &'r FoundHead,
     options: &'r Options<'r, 'r>,
 ) -> Result<(), AmendError>
     requires depth { HasDepth options.now }
     requires marked { options.now.is_marked ≡ true }
-    ensures same { OnOk result (IsComparedAsked marked.entry.mark.now head
-        (options_in options.now)) }
+    ensures same { OnOk result (IsFoundHead marked.entry.mark.now head.now
+        → spec.IsRunOfMark marked.entry.mark.now (options_in options.now)) }
     ensures fault { IfErr result spec.IsVerifyError }
 {
     let part = part_lines(rt.alloc(), options)?;
-    let mark = head_again(&head, head.capture.size, part.as_slice());
+    let mark = head_again(head, head.size, part.as_slice());
     let job = Job {
         options,
         capture: Some(capture),
@@ -232,14 +272,14 @@ fn head_again<'a>(found: &'a FoundHead, size: u64, part: &'a [Word]) -> MarkHead
     ensures version { result.version.now ≡ found.now.version.items }
     ensures name { result.name.now ≡ found.now.name.items }
     ensures size { result.size ≡ size }
-    ensures digest { result.digest.now ≡ string_bytes found.now.capture.digest }
+    ensures digest { result.digest.now ≡ found.now.digest.items }
     ensures part { result.part.now ≡ part.now }
 {
     MarkHead {
         version: found.version.as_slice(),
         name: found.name.as_slice(),
         size,
-        digest: found.capture.digest.as_bytes(),
+        digest: found.digest.as_slice(),
         part,
     }
 }
@@ -295,7 +335,7 @@ fn compare_job<R: Runtime<File = File> + AllocGlobal>(
     marked: Marked<'_>,
 ) -> Result<(), AmendError>
     requires { IsReady job.now }
-    ensures same { OnOk result (spec.IsSameOnDevices job.now.run
+    ensures same { OnOk result (spec.IsMarkedOutputOnDevices job.now.run
         (script_of marked.entry.mark.now)) }
     ensures part { OnOk result (ask_for_part (options_in job.now.options.now) ≡ true
         → spec.IsPartTaken (options_in job.now.options.now)) }
@@ -319,7 +359,7 @@ fn compare_part<R: Runtime<File = File> + AllocGlobal>(
     marked: Marked<'_>,
 ) -> Result<(), AmendError>
     requires { IsReady part.now.job }
-    ensures same { OnOk result (spec.IsSameOnDevices part.now.job.run
+    ensures same { OnOk result (spec.IsMarkedOutputOnDevices part.now.job.run
         (script_of marked.entry.mark.now)) }
     ensures taken { OnOk result (spec.IsTakenFrom part.now.request) }
     ensures fault { IfErr result spec.IsVerifyError }
@@ -362,7 +402,8 @@ fn compare_file<R: Runtime<File = File> + AllocGlobal>(
 ) -> Result<(), AmendError>
     requires least { 1 ≤ run.now.depth }
     requires most { run.now.depth ≤ DEPTH_LIMIT }
-    ensures same { OnOk result (spec.IsSameOnDevices run.now (script_of marked.entry.mark.now)) }
+    ensures same { OnOk result (spec.IsMarkedOutputOnDevices run.now
+        (script_of marked.entry.mark.now)) }
     ensures fault { IfErr result spec.IsVerifyError }
 {
     let Ok(script) = script_of(rt.alloc(), marked.mark) else {
@@ -388,10 +429,10 @@ fn compare_run<R: Runtime + AllocGlobal, C: Source, M: Source + Drop>(
     requires ready { AreReady ⟦<Summed<C> as Source>⟧.has_failed passes.old }
     requires least { 1 ≤ run.now.depth }
     requires most { run.now.depth ≤ DEPTH_LIMIT }
-    ensures same { OnOk result (spec.IsSame run.now
+    ensures same { OnOk result (spec.IsMarkedOutput run.now
         (pass_ends ⟦<Summed<C> as Source>⟧.coming ⟦<Summed<C> as Source>⟧.has_failed passes.old
         passes.new) script.now (M.coming marked)) }
-    ensures on_devices { OnOk result (spec.IsSameOnDevices run.now script.now) }
+    ensures on_devices { OnOk result (spec.IsMarkedOutputOnDevices run.now script.now) }
     ensures fault { IfErr result spec.IsVerifyError }
 {
     let mut compared = Compared::new(marked);

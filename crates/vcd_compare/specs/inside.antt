@@ -1,6 +1,7 @@
 pub mod NarrowValue
 pub mod SignalPair
 pub mod SizedWaves
+pub mod ToldDifferences
 pub mod WaveComparison
 pub mod ShortestRun
 pub mod Pairing

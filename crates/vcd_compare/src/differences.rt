@@ -1,6 +1,6 @@
 //! The differences of two waves, as they are told.
 
-ghost use Rattle.std.specs.Prelude.{◌≡◌, ◌-◌, ◌<◌, ◌∷◌, ◌++◌, ◌^◌, [], List, length};
+ghost use Rattle.std.specs.Prelude.{◌≡◌, ◌-◌, ◌<◌, ◌∷◌, ◌++◌, ◌^◌, [], List, length, true};
 ghost use Rattle.vcd_compare.specs.Differences.{summary};
 ghost use Rattle.vcd_compare.specs.declared.differences.Difference.{Difference as DifferenceTold};
 
@@ -32,6 +32,13 @@ impl<V: Drop> Differences<V> {
             first: None,
             last: None,
         }
+    }
+
+    /// Whether there is none.
+    pub fn is_empty(&self) -> bool
+        ensures { result ≡ true → self.now ≡ summary [] }
+    {
+        self.count == 0 && self.first.is_none() && self.last.is_none()
     }
 
     /// Counts one more, which is the last of them, as far as a `u64` goes.

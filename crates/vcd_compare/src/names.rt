@@ -11,8 +11,7 @@ ghost use Rattle.vcd_compare.specs.inside.Pairing.{texts};
 use crate::request::NameMap;
 use std::alloc::Global;
 use vcd_core::{FullName, NoMemory};
-use vcd_part::copy_name;
-use vcd_text::{Declarations, DeclaredSignal};
+use vcd_text::{Declarations, DeclaredSignal, copy_name};
 
 /// The full names of signals, in their order.
 pub fn names_of(alloc: Global, signals: &Declarations) -> Result<Vec<Vec<u8>>, NoMemory>

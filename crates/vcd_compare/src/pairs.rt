@@ -14,8 +14,9 @@ use crate::narrow_value::NarrowValue;
 use crate::occurrences::Occurrences;
 use crate::shortest_run::ShortestRun;
 use crate::sized_waves::SizedWaves;
+use crate::told_differences::ToldDifferences;
 use crate::wave_comparison::{OpenDifference, WaveComparison};
-use crate::wave_pair::{Bounds, WaveFindings, WaveOutcome, WavePair};
+use crate::wave_pair::{Bounds, WaveFindings, WavePair};
 use std::alloc::Global;
 use std::marker::Model;
 use vcd_core::{NoMemory, Value};
@@ -29,12 +30,12 @@ pub enum Which {
 }
 
 /// What is told of two signals that were compared.
-#[derive(Debug, Drop)]
+#[derive(Drop)]
 pub struct ComparedPair {
     /// The position of the one in the first capture, and of its partner in the second.
     pub first: usize,
     pub second: usize,
-    pub differences: Differences<Value>,
+    pub differences: ToldDifferences,
     /// How many ticks the shortest run of both has, if that is at most twice the tolerance: then
     /// more may be forgiven than late edges.
     pub short_run: Option<u64>,
@@ -79,8 +80,8 @@ impl SignalPair {
     }
 
     /// What is told, if `last` is the last tick of the window.
-    fn finish(self, bounds: Bounds, last: u64) -> ComparedPair
-        ensures { last < 2 ^ 64 - 1 → IsToldOf bounds last self result }
+    fn finish(self, alloc: Global, bounds: Bounds, last: u64) -> Result<ComparedPair, NoMemory>
+        ensures { last < 2 ^ 64 - 1 → IfOk result (IsToldOf bounds last self) }
     {
         let SignalPair {
             first,
@@ -88,16 +89,13 @@ impl SignalPair {
             waves,
             ..
         } = self;
-        let WaveOutcome {
-            differences,
-            short_run,
-        } = waves.finish(bounds, last);
-        ComparedPair {
+        let (differences, short_run) = waves.finish(alloc, bounds, last)?;
+        Ok(ComparedPair {
             first,
             second,
             differences,
             short_run,
-        }
+        })
     }
 }
 
@@ -200,7 +198,8 @@ impl Pairs {
         let Pairs { bounds, all, .. } = self;
         let mut told = Vec::with_capacity(alloc, all.len())?;
         for pair in all {
-            told.push(pair.finish(bounds, last))?;
+            let one = pair.finish(alloc, bounds, last)?;
+            told.push(one)?;
         }
         Ok(told)
     }

@@ -8,10 +8,10 @@ ghost use Rattle.vcd_text.specs.Letters as letters;
 ghost use Rattle.vcd_compare.specs.inside.Pairs.{HasChanged, AreToldOf};
 ghost use Rattle.vcd_compare.specs.inside.SizedWaves.{waves_in, IsSized};
 
-use crate::differences::{Difference, Differences};
 use crate::narrow_value::NarrowValue;
 use crate::pairs::VariableChange;
-use crate::wave_pair::{Bounds, WaveOutcome, WavePair};
+use crate::told_differences::ToldDifferences;
+use crate::wave_pair::{Bounds, WavePair};
 use std::alloc::Global;
 use vcd_core::{Bit, NoMemory, Value};
 use vcd_text::value_of_digits;
@@ -20,7 +20,7 @@ use vcd_text::value_of_digits;
 #[derive(Drop)]
 pub enum SizedWaves {
     /// Of at most 64 bits.
-    Narrow(WavePair<NarrowValue>),
+    Narrow(Box<WavePair<NarrowValue>>),
     /// Of any width.
     Wide(Box<WavePair<Value>>),
 }
@@ -37,7 +37,8 @@ impl SizedWaves {
     {
         if width <= 64 {
             let x = NarrowValue::all_x(width);
-            return Ok(SizedWaves::Narrow(WavePair::new(bounds, x, x)));
+            let waves = Box::new(alloc, WavePair::new(bounds, x, x))?;
+            return Ok(SizedWaves::Narrow(waves));
         }
         let x = Value::filled(width, Bit::X);
         let waves = Box::new(alloc, WavePair::new(bounds, x, x))?;
@@ -69,47 +70,26 @@ impl SizedWaves {
     }
 
     /// What is told, if the waves keep their values up to `last`, the last tick of the window.
-    pub fn finish(self, bounds: Bounds, last: u64) -> WaveOutcome<Value>
+    pub fn finish(
+        self,
+        alloc: Global,
+        bounds: Bounds,
+        last: u64,
+    ) -> Result<(ToldDifferences, Option<u64>), NoMemory>
         ensures { last < 2 ^ 64 - 1 →
-            AreToldOf bounds last (waves_in self) result.differences result.short_run }
+            IfOk result (λ told. AreToldOf bounds last (waves_in self) told.0 told.1) }
     {
         match self {
-            SizedWaves::Narrow(waves) => widened(waves.finish(bounds, last)),
-            SizedWaves::Wide(waves) => Box::into_inner(waves).finish(bounds, last),
+            SizedWaves::Narrow(waves) => {
+                let found = Box::into_inner(waves).finish(bounds, last);
+                let differences = ToldDifferences::narrow(alloc, found.differences)?;
+                Ok((differences, found.short_run))
+            }
+            SizedWaves::Wide(waves) => {
+                let found = Box::into_inner(waves).finish(bounds, last);
+                let differences = ToldDifferences::wide(alloc, found.differences)?;
+                Ok((differences, found.short_run))
+            }
         }
     }
-}
-
-/// The same with room for values of all widths.
-fn widened(outcome: WaveOutcome<NarrowValue>) -> WaveOutcome<Value>
-    ensures { result ≡ outcome }
-{
-    let WaveOutcome {
-        differences,
-        short_run,
-    } = outcome;
-    let Differences { count, first, last } = differences;
-    WaveOutcome {
-        differences: Differences {
-            count,
-            first: widened_difference(first),
-            last: widened_difference(last),
-        },
-        short_run,
-    }
-}
-
-fn widened_difference(difference: Option<Difference<NarrowValue>>) -> Option<Difference<Value>>
-    ensures { result ≡ difference }
-{
-    let Difference {
-        ticks,
-        value_in_a,
-        value_in_b,
-    } = difference?;
-    Some(Difference {
-        ticks,
-        value_in_a: value_in_a.widened(),
-        value_in_b: value_in_b.widened(),
-    })
 }

@@ -151,7 +151,8 @@ impl Walk {
             ⊎ (needs_chunk self.new.second ≡ true) }
         ensures over { result ≡ false → IsWalkOver most self.new }
     {
-        while let Some((which, tick)) = self.next(most) {
+        let last = self.last(most);
+        while let Some((which, tick)) = self.next(last) {
             self.take(which, tick);
         }
         self.needs_chunk()
@@ -167,17 +168,20 @@ impl Walk {
         self.first.needs_chunk() || self.second.needs_chunk()
     }
 
-    /// The next change that is given, by its file and its tick, if it is at hand.
-    fn next(&self, most: u64) -> Option<(Which, u64)>
-        ensures next { IfSome result (λ next. IsNextChange most next.0 next.1 self.now) }
-        ensures over { IfNone result (needs_chunk self.now.first ≡ false →
+    /// The next change that is given, by its file and its tick, if it is at hand and not past
+    /// `last`, the last tick that both files have.
+    fn next(&self, last: u64) -> Option<(Which, u64)>
+        ensures next { (most : ℕ) → IsLast most last self.now →
+            IfSome result (λ next. IsNextChange most next.0 next.1 self.now) }
+        ensures over { (most : ℕ) → IsLast most last self.now →
+            IfNone result (needs_chunk self.now.first ≡ false →
             needs_chunk self.now.second ≡ false → IsWalkOver most self.now) }
     {
         if self.needs_chunk() {
             return None;
         }
         let (which, tick) = earlier(self.first.next_tick(), self.second.next_tick())?;
-        if tick > u128::from(self.last(most)) {
+        if tick > u128::from(last) {
             return None;
         }
         Some((which, tick as u64))

@@ -232,9 +232,10 @@ fn append_pair(
         ++ spec.pair_text (facts_of first.now) pair.now) }
 {
     append_about(text, first, pair.first)?;
-    append_counted(text, pair.differences.count, b"difference")?;
-    append_difference(text, b"first", &pair.differences.first)?;
-    append_difference(text, b"last", &pair.differences.last)
+    let differences = pair.differences.widened();
+    append_counted(text, differences.count, b"difference")?;
+    append_difference(text, b"first", &differences.first)?;
+    append_difference(text, b"last", &differences.last)
 }
 
 /// Appends one of the differences that are shown, with both values at its first tick.

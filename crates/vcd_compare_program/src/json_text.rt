@@ -288,7 +288,7 @@ fn append_pair(
         ++ spec.pair_json (facts_of first.now) pair.now) }
 {
     append_signal(text, b"values", first.name(pair.first))?;
-    append_differences(text, &pair.differences)?;
+    append_differences(text, &pair.differences.widened())?;
     append_bytes(text, b"}")
 }
 

@@ -145,7 +145,7 @@ pub fn same_count(
 fn is_same_pair(first: &ReportedCapture, second: &ReportedCapture, pair: &ComparedPair) -> bool
     ensures { result ≡ spec.is_same_pair (facts_of first.now) (facts_of second.now) pair.now }
 {
-    pair.differences.count == 0 && have_one_kind(first, second, pair.first, pair.second)
+    pair.differences.count() == 0 && have_one_kind(first, second, pair.first, pair.second)
 }
 
 /// Whether two signals are of one kind.
@@ -272,7 +272,7 @@ fn push_values(lines: &mut Vec<ReportLine>, compared: &[ComparedPair]) -> Result
         ++ flat_map (λ p. spec.values_lines p.0 p.1) (enumerate_from 0 compared.now)) }
 {
     for (place, pair) in compared.iter().enumerate() {
-        let differ = pair.differences.count != 0;
+        let differ = pair.differences.count() != 0;
         push_if(lines, differ, ReportLine::OtherValues(place))?;
     }
     Ok(())

@@ -2,6 +2,7 @@
 pub mod SetupErrorNames
 pub mod Lines
 pub mod WaveLines
+pub mod LineEdges
 pub mod UartSetup
 pub mod AmidBit
 pub mod SetupFaults

@@ -1,6 +1,5 @@
 -- Definitions that only contracts of private functions and proofs cite. A reader need not believe
 -- them.
-pub mod LineEdges
 pub mod SpiParts
 pub mod UartFrames
 pub mod PartialWord

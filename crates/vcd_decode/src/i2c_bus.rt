@@ -5,5 +5,5 @@ mod bytes;
 mod events;
 mod transfer;
 
-pub use bus_walk::{edge_event, i2c, levels_of};
+pub use bus_walk::{I2cDecoder, edge_event, i2c, levels_of};
 pub use events::{BusEvent, BusLevels, is_line_high};

@@ -18,7 +18,7 @@ mod uart_frames;
 mod uart_setup;
 
 pub use annotation::{Annotation, Direction, Kind, LineData};
-pub use i2c_bus::{BusEvent, BusLevels, edge_event, i2c, is_line_high, levels_of};
+pub use i2c_bus::{BusEvent, BusLevels, I2cDecoder, edge_event, i2c, is_line_high, levels_of};
 pub use laws::{
     i2c_messages_are_apart, i2c_messages_are_found, spi_selections_and_lines_are_apart,
     spi_words_are_found, uart_frames_are_found, unclear_edges_count_for_nothing,
@@ -26,6 +26,6 @@ pub use laws::{
 pub use letters::{is_unclear, is_zero};
 pub use setup_error::SetupError;
 pub use spi_setup::{BitOrder, GREATEST_MODE, Spi, WORD_BITS_LIMIT, shows_one, shows_zero};
-pub use spi_words::{is_sampling, selects_chip, spi};
+pub use spi_words::{SpiDecoder, is_sampling, selects_chip, spi};
 pub use uart_frames::{begins_frame, begun_frame, uart};
 pub use uart_setup::{Parity, RATIO_LIMIT, Uart};

@@ -2,9 +2,8 @@
 
 ghost use Rattle.std.specs.Prelude.{◌≡◌, ◌<◌, ◌==◌, ◌^◌};
 ghost use Rattle.vcd_decode.specs.inside.PartialWord.{digit_of, longer_number, data_after};
-ghost use Rattle.vcd_decode.specs.inside.PartialWord.{data_before, first_data, DataFits};
-ghost use Rattle.vcd_decode.specs.inside.PartialWord.{group_before, group_after, word_annotation};
-ghost use Rattle.vcd_decode.specs.inside.PartialWord.{unfinished_annotation};
+ghost use Rattle.vcd_decode.specs.inside.PartialWord.{DataFits, empty_group, group_after};
+ghost use Rattle.vcd_decode.specs.inside.PartialWord.{word_annotation, unfinished_annotation};
 
 use crate::annotation::{Annotation, Kind, LineData};
 use crate::spi_setup::{BitOrder, WORD_BITS_LIMIT};
@@ -22,35 +21,16 @@ pub(crate) struct PartialWord {
 }
 
 impl PartialWord {
-    /// No bits yet, for the data lines that are present.
-    pub(crate) fn new(mosi: bool, miso: bool) -> PartialWord
-        ensures { result ≡ record {
-          start = 0;
-          last = 0;
-          count = 0;
-          mosi = first_data mosi;
-          miso = first_data miso;
-        } }
+    /// No bits yet.
+    pub(crate) fn new() -> PartialWord
+        ensures { result ≡ empty_group }
     {
         PartialWord {
             start: 0,
             last: 0,
             count: 0,
-            mosi: first_data(mosi),
-            miso: first_data(miso),
-        }
-    }
-
-    /// No bits yet, for the same data lines.
-    pub(crate) fn before_first_bit(&self) -> PartialWord
-        ensures { result ≡ group_before self.now }
-    {
-        PartialWord {
-            start: 0,
-            last: 0,
-            count: 0,
-            mosi: data_before(self.mosi),
-            miso: data_before(self.miso),
+            mosi: LineData::Number(0),
+            miso: LineData::Number(0),
         }
     }
 
@@ -98,39 +78,19 @@ impl PartialWord {
     }
 }
 
-/// The data of a line before its first bit.
-fn first_data(is_present: bool) -> LineData
-    ensures { result ≡ first_data is_present }
-{
-    if is_present {
-        LineData::Number(0)
-    } else {
-        LineData::Absent
-    }
-}
-
-/// The data before the first bit of a line with these data.
-fn data_before(shown: LineData) -> LineData
-    ensures { result ≡ data_before shown }
-{
-    match shown {
-        LineData::Absent => LineData::Absent,
-        _ => LineData::Number(0),
-    }
-}
-
-/// The data of a line after one more bit, where `count` bits came before.
+/// The data of a line after one more bit, where `count` bits came before. An absent line has none.
 fn data_after(order: BitOrder, count: u64, shown: LineData, bit: Option<Bit>) -> LineData
     requires count { count < WORD_BITS_LIMIT }
     requires fits { DataFits count shown }
     ensures { result ≡ data_after order count shown bit }
 {
     match (shown, bit) {
+        (_, None) => LineData::Absent,
         (LineData::Number(number), Some(bit)) => match digit_of(bit) {
             Some(digit) => LineData::Number(longer_number(order, count, number, digit)),
             None => LineData::Unknown,
         },
-        (shown, _) => shown,
+        (shown, Some(_)) => shown,
     }
 }
 

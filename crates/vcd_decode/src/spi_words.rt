@@ -16,6 +16,7 @@ use crate::letters::is_zero;
 use crate::partial_word::PartialWord;
 use crate::spi_setup::Spi;
 use std::alloc::Global;
+use std::marker::Model;
 use vcd_core::{Bit, BitEdge, BitEdges, NoMemory, Wave};
 
 /// The words of a serial peripheral interface up to the tick `end`. The lines are the clock `clk`,
@@ -46,15 +47,74 @@ pub fn spi<'a>(
         (option_map line_of (option_copied miso.entry))
         (option_map line_of (option_copied cs.entry)) end) }
 {
-    setup.bits_fit();
-    let edges = BitEdges::new(Some(clk), mosi, miso, cs);
     let mut found = Vec::new(alloc);
-    let mut group = PartialWord::new(mosi.is_some(), miso.is_some());
-    for edge in edges {
-        group = take_clock_edge(&mut found, setup, &group, &edge)?;
+    let mut decoder = SpiDecoder::new(*setup);
+    for edge in BitEdges::new(Some(clk), mosi, miso, cs) {
+        decoder.take(&mut found, &edge)?;
     }
-    append_unfinished(&mut found, &group)?;
+    decoder.finish(&mut found)?;
     Ok(found)
+}
+
+/// What [`spi`] does at each edge, for lines whose edges come one at a time. It holds the bits of
+/// one word.
+///
+/// Contracts see the annotations that are left to give, for any edges to come.
+#[derive(Drop)]
+pub struct SpiDecoder {
+    setup: Spi,
+    group: PartialWord,
+}
+
+impl Model for SpiDecoder {
+    ghost use Rattle.vcd_decode.specs.inside.SpiWords.{SpiState, HasRoomForBit};
+
+    ghost Value = { SpiState };
+
+    ghost view = { λ d. record { setup = d.setup; group = d.group } };
+
+    ghost invariant = { λ d. HasRoomForBit d.setup d.group };
+}
+
+impl SpiDecoder {
+    ghost use Rattle.std.specs.Prelude.{ℕ, List, Option};
+    ghost use Rattle.vcd_core.specs.declared.bit.Bit.{Bit};
+    ghost use Rattle.vcd_core.specs.declared.bit_edges.BitEdge.{BitEdge};
+    ghost use Rattle.vcd_decode.specs.LineEdges.{AreEdgesOf};
+    ghost use Rattle.vcd_decode.specs.inside.SpiWords.{spi_annotations_left};
+
+    /// The decoder before the first edge. The lines of an edge are the clock, MOSI, MISO and the
+    /// chip select.
+    pub fn new(setup: Spi) -> SpiDecoder
+        ensures { (clk : ℕ → Bit) (mosi miso cs : Option (ℕ → Bit)) (end : ℕ)
+            (edges : List BitEdge) → AreEdgesOf (Some clk ∷ mosi ∷ miso ∷ cs ∷ []) end edges
+            → spi_annotations_left result edges ≡ spi_annotations setup clk mosi miso cs end }
+    {
+        setup.bits_fit();
+        SpiDecoder {
+            setup,
+            group: PartialWord::new(),
+        }
+    }
+
+    /// Takes the next edge, and appends the annotation that it completes.
+    pub fn take(&mut self, found: &mut Vec<Annotation>, edge: &BitEdge) -> Result<(), NoMemory>
+        ensures { OnOk result ((more : List BitEdge)
+            → found.new.items ++ spi_annotations_left self.new more
+            ≡ found.old.items ++ spi_annotations_left self.old (edge.now ∷ more)) }
+    {
+        self.group = take_clock_edge(found, &self.setup, &self.group, edge)?;
+        Ok(())
+    }
+
+    /// Appends the number of bits of a word that the end of the capture cuts off.
+    #[tactic(auto, unfolding(crate::specs::inside::SpiWords::spi_annotations_left))]
+    pub fn finish(self, found: &mut Vec<Annotation>) -> Result<(), NoMemory>
+        ensures { OnOk result (found.new.items
+            ≡ found.old.items ++ spi_annotations_left self []) }
+    {
+        append_unfinished(found, &self.group)
+    }
 }
 
 /// Appends the annotation that an edge completes. Returns the group of bits after it.
@@ -71,7 +131,7 @@ fn take_clock_edge(
 {
     if deselects_chip(edge) {
         append_unfinished(found, group)?;
-        return Ok(group.before_first_bit());
+        return Ok(PartialWord::new());
     }
     take_sample(found, setup, group, edge)
 }
@@ -98,7 +158,7 @@ fn take_sample(
         return Ok(next_group);
     }
     found.push(next_group.whole_word())?;
-    Ok(next_group.before_first_bit())
+    Ok(PartialWord::new())
 }
 
 /// Appends the number of bits of an unfinished word, if there are any.

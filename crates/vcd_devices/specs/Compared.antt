@@ -1,6 +1,6 @@
 -- What a sink that compares shows, and why it fails: the project's own.
 use Rattle.std.specs.Prelude.{◌≡◌, ℕ, ◌+◌, ◌-◌, ◌^◌, ◌==◌, ◌<◌, min, if◌then◌else◌, Bool, true}
-use Rattle.std.specs.Prelude.{List, ◌∷◌, ◌++◌, ◌⊎◌, length, take, drop, bytes_eq}
+use Rattle.std.specs.Prelude.{List, [], ◌∷◌, ◌++◌, length, take, drop, bytes_eq}
 use Rattle.std.specs.Prelude.{Option, Some, None, IfSome}
 use Rattle.std.specs.Option.{option_map}
 use Rattle.std.specs.List.{common_prefix_len}
@@ -49,6 +49,11 @@ IsOther same bytes old new has_failed fault = ⊥
 abbrev pub ShowsWhole : (taken : Option (List ℕ)) → Type 0
 ShowsWhole taken = IfSome taken (λ bytes. (file : List ℕ) × (bytes ≡ shown_whole file))
 
--- why a file that is the same so far is not the same: it goes on, or can't be read
-abbrev pub IsRest : (same : ℕ) → VerifyFault → Type 0
-IsRest same fault = (fault ≡ faults.GoesOn same) ⊎ (fault ≡ faults.NotRead)
+-- why a file that is the same so far is not the same, by what comes of its source: one byte more,
+-- or the source has failed
+abbrev pub IsRest : (same : ℕ) → (old new : Option (List ℕ)) → (has_failed : Bool) → VerifyFault
+    → Type 0
+IsRest same old new has_failed (faults.GoesOn n) =
+    (n ≡ same) × (byte : ℕ) × Consumes old new (byte ∷ [])
+IsRest same old new has_failed faults.NotRead = has_failed ≡ true
+IsRest same old new has_failed fault = ⊥

@@ -2,5 +2,3 @@
 pub mod Sums
 pub mod OutputFaults
 pub mod Compared
-pub mod Places
-pub mod inside

@@ -1,9 +1,6 @@
 //! What is looked for in the bytes of a capture as they are read: the mark of an earlier run, and
 //! whether the last line has a line feed.
 
-ghost use Rattle.std.specs.Prelude.{◌≡◌};
-ghost use Rattle.vcd_devices.specs.Places.{is_mark, is_over};
-
 use std::io::Eprint;
 use vcd_core::is_white_space;
 
@@ -74,9 +71,7 @@ impl CaptureSearch {
     }
 
     /// Whether the first word of a mark in the declarations has come, and not its last one.
-    pub fn is_within_mark(&self) -> bool
-        ensures { result ≡ is_mark self.now.place }
-    {
+    pub fn is_within_mark(&self) -> bool {
         match self.place {
             Place::Mark => true,
             _ => false,
@@ -84,9 +79,7 @@ impl CaptureSearch {
     }
 
     /// Whether no mark can come any more.
-    pub fn is_over(&self) -> bool
-        ensures { result ≡ is_over self.now.place }
-    {
+    pub fn is_over(&self) -> bool {
         match self.place {
             Place::Over => true,
             _ => false,

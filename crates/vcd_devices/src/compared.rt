@@ -36,6 +36,7 @@ impl<S: Source> Compared<S> {
         ensures shown { ⟦<Compared<S> as Sink>⟧.taken result
             ≡ spec.shown (S.coming source) (S.coming source) }
         ensures not_failed { ⟦<Compared<S> as Sink>⟧.has_failed result ≡ false }
+        ensures counted { result.same ≡ 0 }
     {
         let start = Snapshot::of(&source);
         let last = Snapshot::of(&source);
@@ -61,7 +62,8 @@ impl<S: Source> Compared<S> {
     pub fn refuse_rest(&mut self) -> Result<(), VerifyFault>
         requires { ⟦<Compared<S> as Sink>⟧.has_failed self.old ≡ false }
         ensures whole { OnOk result (spec.ShowsWhole (⟦<Compared<S> as Sink>⟧.taken self.old)) }
-        ensures fault { IfErr result (spec.IsRest self.old.same) }
+        ensures fault { IfErr result (spec.IsRest self.old.same (S.coming self.old.source)
+            (S.coming self.new.source) (S.has_failed self.new.source)) }
     {
         match self.source.read(&mut [0]) {
             Ok(0) => Ok(()),

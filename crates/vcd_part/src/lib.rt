@@ -27,7 +27,7 @@ mod window;
 mod written_part;
 
 pub use laws::part_is_read_again;
-pub use named_variable::{NamedVariable, copy_name};
+pub use named_variable::NamedVariable;
 pub use part::{PartError, write_part};
 pub use pattern::meets;
 pub use patterns::Patterns;

@@ -1,10 +1,11 @@
 //! Variables by their names.
 
-ghost use Rattle.std.specs.Prelude.{◌≡◌, ◌++◌, ◌∷◌, [], IfOk, OnOk, if◌then◌else◌};
+ghost use Rattle.std.specs.Prelude.{◌≡◌, ◌++◌, ◌∷◌, [], OnOk, if◌then◌else◌};
 ghost use Rattle.vcd_core.specs.FullName.{name_bytes};
 
 use std::alloc::Global;
-use vcd_core::{FullName, NoMemory, Seq, Word, copy_word};
+use vcd_core::{FullName, NoMemory, Word, copy_word};
+use vcd_text::copy_name;
 
 /// A variable by its name and its code.
 #[derive(Drop)]
@@ -34,16 +35,4 @@ pub fn note_named_variable(
         code: copy_word(alloc, code)?,
     })?;
     Ok(())
-}
-
-/// The bytes of a full name, in memory of their own.
-pub fn copy_name(alloc: Global, name: FullName<'_>) -> Result<Word, NoMemory>
-    ensures { IfOk result (λ word. word ≡ name_bytes name.entry) }
-{
-    let mut left = name;
-    let mut text = Vec::new(alloc);
-    while let Some(byte) = left.next_byte() {
-        text.push(byte)?;
-    }
-    Ok(Seq::from_vec(text))
 }

@@ -1,10 +1,10 @@
 //! What is found of the events on an I2C bus.
 
-ghost use Rattle.std.specs.Prelude.{◌≡◌, ◌+◌, ◌<◌, ◌^◌, [], length, All, false};
+ghost use Rattle.std.specs.Prelude.{◌≡◌, ◌+◌, ◌<◌, ◌^◌, [], length, false};
 ghost use Rattle.vcd_core.specs.Wave.{AllUpTo};
 ghost use Rattle.vcd_decode.specs.WaveLines.{line_of};
 ghost use Rattle.vcd_decode.specs.BusEvents.{bus_events};
-ghost use Rattle.vcd_decode.specs.inside.i2c_bus.BusWalk.{IsBusEdge, edge_events};
+ghost use Rattle.vcd_decode.specs.inside.i2c_bus.BusWalk.{edge_events};
 ghost use Rattle.vcd_remarks.specs.BusFindings as spec;
 ghost use Rattle.vcd_remarks.specs.FoundTicks.{found_ticks};
 ghost use Rattle.vcd_remarks.specs.inside.BusFindings as walk;
@@ -49,8 +49,7 @@ pub fn i2c_bus_findings<'a>(scl: &'a Wave, sda: &'a Wave, end: u64) -> BusWalk
 
 /// What is found of the events at the edges of SCL and SDA.
 fn walk_edges(edges: BitEdges) -> BusWalk
-    requires lines { All IsBusEdge edges }
-    requires few { length (edge_events edges) < 2 ^ 64 }
+    requires { length (edge_events edges) < 2 ^ 64 }
     ensures { result ≡ walk.with_events walk.no_events (edge_events edges.entry) }
 {
     let mut found = BusWalk::none();

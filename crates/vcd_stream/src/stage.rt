@@ -80,7 +80,7 @@ struct LastGiven<V> {
 
 /// Replaced ticks, and the value that they get.
 #[derive(Clone, Copy)]
-struct Replaced<V> {
+struct Replacement<V> {
     ticks: ReplacedTicks,
     value: V,
 }
@@ -107,7 +107,7 @@ impl<V: Letters> Stage<V> {
             Work::Later { by, end } => take_later(out, last, *by, *end, change),
             Work::Replace { ticks, value, now } => {
                 let (ticks, value) = (*ticks, *value);
-                take_replaced(out, last, Replaced { ticks, value }, *now, change)
+                take_replaced(out, last, Replacement { ticks, value }, *now, change)
             }
             Work::Hide { ticks, now } => take_hidden(out, last, *ticks, *now, change),
             Work::Earlier { by } => take_earlier(out, last, *by, change),
@@ -129,7 +129,7 @@ impl<V: Letters> Stage<V> {
             Work::Deglitch { ticks: _, held } => finish_with(out, last, *held),
             Work::Replace { ticks, value, now } => {
                 let (ticks, value) = (*ticks, *value);
-                finish_replaced(out, last, Replaced { ticks, value }, *now)
+                finish_replaced(out, last, Replacement { ticks, value }, *now)
             }
             Work::Hide { ticks, now } => finish_hidden(out, last, *ticks, *now),
             Work::OfFile { held } => finish_with(out, last, *held),
@@ -288,7 +288,7 @@ fn take_hidden<V: Letters>(
 fn begin_replaced<V: Letters>(
     out: &mut Vec<ChangeTo<V>>,
     last: LastGiven<V>,
-    replaced: Replaced<V>,
+    replacement: Replacement<V>,
 ) -> Result<V, NoMemory>
     requires least { 1 ≤ last.width }
     requires most { last.width ≤ V.widest }
@@ -297,9 +297,9 @@ fn begin_replaced<V: Letters>(
         ++ without_repeats (V.letters last.width v) more
         ≡ all_seen (V.letters last.width) out.old.items
         ++ without_repeats (V.letters last.width last.value)
-        (begun replaced.ticks (V.letters last.width replaced.value) more)) }
+        (begun replacement.ticks (V.letters last.width replacement.value) more)) }
 {
-    let Replaced { ticks, value } = replaced;
+    let Replacement { ticks, value } = replacement;
     if ticks.from >= ticks.until {
         return Ok(last.value);
     }
@@ -310,17 +310,17 @@ fn begin_replaced<V: Letters>(
 fn take_replaced<V: Letters>(
     out: &mut Vec<ChangeTo<V>>,
     last: LastGiven<V>,
-    replaced: Replaced<V>,
+    replacement: Replacement<V>,
     now: V,
     change: ChangeTo<V>,
 ) -> Result<Stage<V>, NoMemory>
     requires least { 1 ≤ last.width }
     requires most { last.width ≤ V.widest }
     ensures { IfOk result (GoesOn (V.letters last.width) out.old.items out.new.items
-        (record { work = works.Replace replaced.ticks replaced.value now; last = last.value })
+        (record { work = works.Replace replacement.ticks replacement.value now; last = last.value })
         change) }
 {
-    let Replaced { ticks, value } = replaced;
+    let Replacement { ticks, value } = replacement;
     if change.tick < ticks.from {
         let last = give(out, last, change)?;
         let now = change.value;
@@ -328,7 +328,7 @@ fn take_replaced<V: Letters>(
         return Ok(Stage { work, last });
     }
     let width = last.width;
-    let value = begin_replaced(out, last, replaced)?;
+    let value = begin_replaced(out, last, replacement)?;
     take_hidden(out, LastGiven { width, value }, ticks, now, change)
 }
 
@@ -392,17 +392,17 @@ fn finish_hidden<V: Letters>(
 fn finish_replaced<V: Letters>(
     out: &mut Vec<ChangeTo<V>>,
     last: LastGiven<V>,
-    replaced: Replaced<V>,
+    replacement: Replacement<V>,
     now: V,
 ) -> Result<(), NoMemory>
     requires least { 1 ≤ last.width }
     requires most { last.width ≤ V.widest }
     ensures { OnOk result (all_seen (V.letters last.width) out.new.items
         ≡ all_seen (V.letters last.width) out.old.items
-        ++ without_repeats (V.letters last.width last.value) (replaced_changes replaced.ticks
-        (V.letters last.width replaced.value) (V.letters last.width now) [])) }
+        ++ without_repeats (V.letters last.width last.value) (replaced_changes replacement.ticks
+        (V.letters last.width replacement.value) (V.letters last.width now) [])) }
 {
     let width = last.width;
-    let value = begin_replaced(out, last, replaced)?;
-    finish_hidden(out, LastGiven { width, value }, replaced.ticks, now)
+    let value = begin_replaced(out, last, replacement)?;
+    finish_hidden(out, LastGiven { width, value }, replacement.ticks, now)
 }

@@ -6,7 +6,7 @@ use Rattle.vcd_core.specs.declared.wave.Change.{Change}
 use Rattle.vcd_core.specs.Wave.{change}
 use Rattle.vcd_text.specs.Words.{words_of}
 use Rattle.vcd_text.specs.Letters.{extension, letters_of_digits}
-use Rattle.vcd_text.specs.Items.{Item, scalar, vector}
+use Rattle.vcd_text.specs.Items.{Item, scalar, vector, real_or_string}
 use Rattle.vcd_text.specs.Grammar.{VariableDeclaration, ParseState, Accepts, AllowsAll}
 use Rattle.vcd_text.specs.Grammar.{initial_state, state_after, state_after_item, is_skipped}
 use Rattle.vcd_text.specs.Grammar.{kept_variables, variable_of}
@@ -27,20 +27,37 @@ first_with code (d ∷ ds) = if bytes_eq code d.code then 0 else suc (first_with
 
 -- ---- what is heard
 
--- what is heard of a change of a code to digits, if this is its first variable
-abbrev pub heard_value : ParseState → (code digits : List ℕ) → Option VariableDeclaration
+-- the variables that are skipped
+abbrev pub skipped_variables : List VariableDeclaration → List VariableDeclaration
+skipped_variables declared = filter is_skipped declared
+
+-- the first of the declared variables with a code, which is this one
+abbrev pub heard_target : List VariableDeclaration → (code : List ℕ) → VariableDeclaration
+    → ChangeTarget
+heard_target declared code d =
+    if is_skipped d then Skipped (first_with code (skipped_variables declared))
+    else Kept (first_with code (kept_variables declared))
+
+-- what is heard of a change of a code to the value of a text, if this is its first variable
+abbrev pub heard_value : ParseState → (code text : List ℕ) → Option VariableDeclaration
     → List HeardChange
-heard_value s code digits None = []
-heard_value s code digits (Some d) = if is_skipped d then [] else record {
-  tick = s.tick;
-  target = Kept (first_with code (kept_variables s.declared));
-  text = digits;
-} ∷ []
+heard_value s code text None = []
+heard_value s code text (Some d) =
+    record { tick = s.tick; target = heard_target s.declared code d; text = text } ∷ []
+
+-- what is heard of a change to a real number or a string, which a kept variable does not take
+abbrev pub heard_word : ParseState → (code word : List ℕ) → Option VariableDeclaration
+    → List HeardChange
+heard_word s code word None = []
+heard_word s code word (Some d) =
+    if is_skipped d then heard_value s code word (Some d) else []
 
 -- what is heard of an item
 abbrev pub heard_of : ParseState → Item → List HeardChange
 heard_of s (scalar digit code) = heard_value s code (digit ∷ []) (variable_of s code)
 heard_of s (vector first digits code) = heard_value s code digits (variable_of s code)
+heard_of s (real_or_string first text code) =
+    heard_word s code (first ∷ text) (variable_of s code)
 heard_of s item = []
 
 -- what is heard of items, one after another

@@ -1,12 +1,13 @@
 -- The laws of what is heard of a file: it is what the file means, in the order of ticks.
-use Rattle.std.specs.Prelude.{◌≡◌, ℕ, ◌≤◌, List, [], ◌∷◌, Some, IsTrue, All, slice_get, map}
-use Rattle.std.specs.Prelude.{IsSomeAnd}
+use Rattle.std.specs.Prelude.{◌≡◌, ℕ, ◌<◌, ◌≤◌, List, [], ◌∷◌, Some, IsTrue, All, slice_get, map}
+use Rattle.std.specs.Prelude.{IsSomeAnd, length}
 use Rattle.vcd_core.specs.Contents.{signal_value}
 use Rattle.vcd_core.specs.Wave.{value_at}
 use Rattle.vcd_text.specs.Grammar.{VariableDeclaration, ParseState, initial_state, kept_variables}
 use Rattle.vcd_text.specs.Letters.{value_of_digits, extension, letters_of_digits}
 use Rattle.vcd_text.specs.Meaning.{declared_signal}
 use Rattle.vcd_text.specs.HeardChanges.{HeardChange, AreHeard, first_with, heard_changes}
+use Rattle.vcd_text.specs.HeardChanges.{skipped_variables}
 use Rattle.vcd_text.specs.declared.reading.heard_changes.ChangeTarget.{ChangeTarget}
 use Rattle.vcd_text.specs.declared.reading.heard_changes.ChangeTarget.TheVariants.{Kept, Skipped}
 
@@ -35,13 +36,13 @@ DeclarationsStay = (from to : ParseState) (heard : List HeardChange) → AreHear
     → IsTrue from.in_body → IsTrue to.in_body × (to.declared ≡ from.declared)
     × (to.timescale ≡ from.timescale)
 
--- a text writes a value of the variable that is the target
+-- the target is a variable, and if it is kept, the text writes a value of it
 abbrev pub FitsTarget : List VariableDeclaration → ChangeTarget → (text : List ℕ) → Type 0
 FitsTarget declared (Kept position) text = IsSomeAnd (slice_get (kept_variables declared) position)
     (λ d. value_of_digits d.size text ≡ Some (extension d.size (letters_of_digits text)))
-FitsTarget declared (Skipped position) text = ⊥
+FitsTarget declared (Skipped position) text = position < length (skipped_variables declared)
 
--- each text writes a value of its target
+-- each target is a variable, and each text of a kept one writes a value of it
 abbrev pub HeardChangesFit : Type 0
 HeardChangesFit = (limit : ℕ) (state : ParseState) (heard : List HeardChange)
     → AreHeard (initial_state limit) state heard

@@ -12,6 +12,7 @@
 
 mod fault;
 mod laws;
+mod names;
 mod reading;
 mod words;
 mod writing;
@@ -21,6 +22,7 @@ pub use laws::{
     has_an_answer, has_one_answer, heard_changes_are_meant, nothing_else_is_read_back, parts_agree,
     prefix_fault_stays, prefix_has_one_fault, text_is_read_back,
 };
+pub use names::copy_name;
 pub use reading::choice::Unheard;
 pub use reading::file_reader::{FileReader, take_word};
 pub use reading::listener::Listener;
@@ -28,8 +30,8 @@ pub use reading::parser::{OpenItem, Parser};
 pub use reading::part_listener::PartListener;
 pub use reading::{
     ChangeStream, ChangeTarget, Choice, CodeTargets, Declarations, DeclaredSignal, FILE_LIMIT,
-    HeardChange, HeardChanges, LONG_FILE_LIMIT, Loaded, TickRange, VARIABLE_LIMIT, read,
-    read_letter_block, read_part, value_of_digits,
+    HeardChange, HeardChanges, LONG_FILE_LIMIT, Loaded, SkippedVariable, TickRange, VARIABLE_LIMIT,
+    read, read_letter_block, read_part, value_of_digits,
 };
 pub use words::{WordOnLine, Words};
 pub use writing::declarations::are_same_words;

@@ -33,6 +33,7 @@ pub(crate) mod part;
 pub(crate) mod part_listener;
 mod read_buffer;
 mod scopes;
+mod skipped_variables;
 mod ticks_and_sizes;
 mod timescale;
 mod variables;
@@ -47,6 +48,7 @@ pub use choice::{Choice, TickRange};
 pub use code_targets::CodeTargets;
 pub use declared_signals::{Declarations, DeclaredSignal};
 pub use heard_changes::{ChangeTarget, HeardChange, HeardChanges};
+pub use skipped_variables::SkippedVariable;
 use std::alloc::Global;
 use vcd_core::{Capture, SIGNAL_LIMIT, Source};
 

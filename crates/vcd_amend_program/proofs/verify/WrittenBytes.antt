@@ -10,12 +10,12 @@ use Rattle.vcd_amend_run.specs.declared.running.AmendRunError.{AmendRunError}
 use Rattle.vcd_amend_run.specs.declared.running.RunOptions.{RunOptions}
 use Rattle.vcd_devices.specs.Compared.{shown, ShowsWhole}
 use Rattle.vcd_devices.proofs.shared.WholeFiles.{whole_file}
-use Rattle.vcd_amend_program.specs.VerifyOutcome.{IsSame, IsSameOnDevices}
+use Rattle.vcd_amend_program.specs.VerifyOutcome.{IsMarkedOutput, IsMarkedOutputOnDevices}
 
 done : (run : RunOptions) (passes : PassEnds) (script replies out : DeviceEnd) (lines : List ℕ)
     (marked : Option (List ℕ)) (summary : Summary) → script.before ≡ Some lines → out.before ≡ shown marked marked
     → ShowsWhole out.after → MarkedRunEnds run passes script replies (Some out) (Ok summary)
-    → IsSame run passes lines marked
+    → IsMarkedOutput run passes lines marked
 done run passes script replies out lines marked summary reads begun whole ends = λ file all.
     let (written, is, texts) = ends.run file lines all reads in
     let grown : Appends (shown marked marked) out.after written.output
@@ -27,7 +27,7 @@ pub written_whole : (run : RunOptions) (passes : PassEnds) (script replies out :
     (marked : Option (List ℕ)) (summary : Summary) (ended : Result Summary AmendRunError)
     → script.before ≡ Some lines → out.before ≡ shown marked marked → ShowsWhole out.after
     → MarkedRunEnds run passes script replies (Some out) ended → ended ≡ Ok summary
-    → IsSame run passes lines marked
+    → IsMarkedOutput run passes lines marked
 written_whole run passes script replies out lines marked summary ended reads begun whole ends is =
     done run passes script replies out lines marked summary reads begun whole
     (subst (λ r. MarkedRunEnds run passes script replies (Some out) r) is ends)
@@ -36,7 +36,7 @@ written_whole run passes script replies out lines marked summary ended reads beg
 pub written_on_devices : (run : RunOptions) (passes : PassEnds) (script replies out : DeviceEnd) (lines : List ℕ)
     (marked : Option (List ℕ)) (summary : Summary) (ended : Result Summary AmendRunError)
     → script.before ≡ Some lines → out.before ≡ shown marked marked → ShowsWhole out.after
-    → MarkedRunEnds run passes script replies (Some out) ended → ended ≡ Ok summary → IsSameOnDevices run lines
+    → MarkedRunEnds run passes script replies (Some out) ended → ended ≡ Ok summary → IsMarkedOutputOnDevices run lines
 written_on_devices run passes script replies out lines marked summary ended reads begun whole ends is = (
   passes,
   marked,

@@ -1,44 +1,33 @@
 -- A comparison of a marked file, from its mark on.
-use Rattle.std.specs.Prelude.{◌≡◌, ◌++◌, true, ℕ, List, codes, string_bytes, Some, map}
+use Rattle.std.specs.Prelude.{◌≡◌, ◌++◌, ℕ, List, codes, decimal, map}
 use Rattle.std.specs.Option.{option_copied}
 use Rattle.vcd_copy.specs.declared.marking.head.MarkHead.{MarkHead}
-use Rattle.vcd_amend_run.specs.declared.running.RunOptions.{RunOptions}
-use Rattle.vcd_amend_program.specs.CommandLine.{AskedOptions, ask_for_part}
-use Rattle.vcd_amend_program.specs.FoundMarks.{first_of, said_after, script_of, sum_text}
-use Rattle.vcd_amend_program.specs.FoundMarks.{unescaped}
+use Rattle.vcd_amend_program.specs.CommandLine.{AskedOptions}
+use Rattle.vcd_amend_program.specs.FoundMarks.{first_line, said_after}
 use Rattle.vcd_amend_program.specs.Marks.{part_lines}
-use Rattle.vcd_amend_program.specs.ProgramEnds.{IsAskedRun}
-use Rattle.vcd_amend_program.specs.VerifyOutcome.{IsPartTaken, IsSameOnDevices}
+use Rattle.vcd_amend_program.specs.VerifyOutcome.{IsHeadOf}
 use Rattle.vcd_amend_program.specs.declared.verify.FoundHead.{FoundHead}
 use Rattle.vcd_amend_program.specs.declared.verify.PartSaid.{PartSaid}
 
--- what a mark says first, of a capture that it names
-pub record IsFoundHead (mark : List ℕ) (head : FoundHead) : Type 0 where
-  pub title : List ℕ
-  pub word : List ℕ
-  pub first : first_of (said_after (codes " ") mark) ≡ Some title
-  pub second : first_of (said_after (codes "read ") mark)
-      ≡ Some (word ++ sum_text head.capture.size (string_bytes head.capture.digest))
-  pub version : head.version.items ≡ unescaped title
-  pub name : head.name.items ≡ unescaped word
+-- what a mark says of a capture after its name
+abbrev pub sum_text : (size : ℕ) → (digest : List ℕ) → List ℕ
+sum_text size digest = codes " " ++ decimal size ++ codes " bytes SHA-256 " ++ digest
 
--- a run as these options ask for it, with this head of its mark, writes the marked file
-pub record IsComparedAsked (mark : List ℕ) (head : FoundHead) (o : AskedOptions) : Type 0 where
-  pub run : RunOptions
-  pub asked : IsAskedRun o run
-  pub written : MarkHead
-  pub headed : run.mark ≡ Some written
-  pub version : written.version.now ≡ head.version.items
-  pub name : written.name.now ≡ head.name.items
-  pub size : written.size ≡ head.capture.size
-  pub digest : written.digest.now ≡ string_bytes head.capture.digest
-  pub lines : written.part.now ≡ part_lines o
-  pub part : ask_for_part o ≡ true → IsPartTaken o
-  pub same : IsSameOnDevices run (script_of mark)
+-- a head of a mark is the one that was found
+pub record IsHeadFrom (found : FoundHead) (head : MarkHead) : Type 0 where
+  pub version : head.version.now ≡ found.version.items
+  pub name : head.name.now ≡ found.name.items
+  pub size : head.size ≡ found.size
+  pub digest : head.digest.now ≡ found.digest.items
+
+-- this head was found in a mark
+abbrev pub IsFoundHead : (mark : List ℕ) → FoundHead → Type 0
+IsFoundHead mark found = (o : AskedOptions) (head : MarkHead) → IsHeadFrom found head
+    → head.part.now ≡ part_lines o → IsHeadOf mark o head
 
 -- a mark says this of the part that was taken
 pub record IsPartSaid (mark : List ℕ) (part : PartSaid) : Type 0 where
   pub keep : map (λ text. text.now) part.keep.items ≡ said_after (codes "part keep ") mark
   pub remove : map (λ text. text.now) part.remove.items ≡ said_after (codes "part remove ") mark
-  pub from : option_copied part.from ≡ first_of (said_after (codes "part from ") mark)
-  pub to : option_copied part.to ≡ first_of (said_after (codes "part to ") mark)
+  pub from : option_copied part.from ≡ first_line (said_after (codes "part from ") mark)
+  pub to : option_copied part.to ≡ first_line (said_after (codes "part to ") mark)

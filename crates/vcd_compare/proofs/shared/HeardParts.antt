@@ -54,7 +54,7 @@ heard_then from via to hs ks first second = record {
 none_of_declarations : (s : ParseState) (i : Item) → IsTrue (fits s i) → IsFalse s.in_body → heard_of s i ≡ []
 none_of_declarations s (scalar digit code) fit early = absurd (both_ways _ early (and_parts _ _ fit).0)
 none_of_declarations s (vector first digits code) fit early = absurd (both_ways _ early (and_parts _ _ fit).0)
-none_of_declarations s (real_or_string first text code) fit early = refl
+none_of_declarations s (real_or_string first text code) fit early = absurd (both_ways _ early (and_parts _ _ fit).0)
 none_of_declarations s (entry kind words) fit early = refl
 none_of_declarations s (timescale words) fit early = refl
 none_of_declarations s (scope kind words) fit early = refl

@@ -9,6 +9,7 @@ use Rattle.vcd_text.specs.Grammar.{ParseState, initial_state}
 use Rattle.vcd_text.specs.HeardChanges.{HeardChange, AreHeard}
 use Rattle.vcd_text.specs.inside.reading.ChangeStream.{HasStreamed, heard_by}
 use Rattle.vcd_text.specs.inside.reading.Parser.{ParserMatches}
+use Rattle.vcd_text.specs.inside.reading.SkippedVariables.{HasSkipped}
 use Rattle.vcd_text.specs.declared.reading.change_stream.ChangeStream.{ChangeStream}
 use Rattle.vcd_compare.specs.inside.Side.{at_hand, needs_chunk, IsSideAt, ReadsOn, ReadsToEnd, IsHeardWhole}
 use Rattle.vcd_compare.specs.declared.side.Side.{Side}
@@ -99,7 +100,11 @@ nothing_read coming s taken factor all h =
     let none : drop taken (heard_by s) ≡ [] =
     at_drop_all (λ hs. hs) (heard_by s) taken (omega (arith, all)) in
     record {
-      at = (h.asked, subst (ParserMatches h.asked s.reader.parser) h.state_is h.taken.at.0);
+      at = (
+        h.asked,
+        subst (ParserMatches h.asked s.reader.parser) h.state_is h.taken.at.0,
+        subst (λ (c : ParseState). HasSkipped s.listener.skipped c.declared) h.state_is h.skipped,
+      );
       heard = subst (AreHeard (initial_state SIGNAL_LIMIT) (initial_state SIGNAL_LIMIT)) (sym none)
           (heard_none (initial_state SIGNAL_LIMIT));
       goes_on = λ on. subst (λ hs. HasStreamed coming coming (initial_state SIGNAL_LIMIT) hs s) (sym none) h;

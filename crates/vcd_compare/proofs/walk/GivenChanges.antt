@@ -8,7 +8,7 @@ use Rattle.vcd_core.specs.Wave.{change}
 use Rattle.vcd_text.specs.Letters.{extension, letters_of_digits, value_of_digits}
 use Rattle.vcd_text.specs.HeardChanges.{HeardChange, is_of_kept}
 use Rattle.vcd_text.specs.HeardLaws.{TicksRise}
-use Rattle.vcd_text.specs.declared.reading.heard_changes.ChangeTarget.TheVariants.{Kept}
+use Rattle.vcd_text.specs.declared.reading.heard_changes.ChangeTarget.TheVariants.{Kept, Skipped}
 use Rattle.vcd_compare.specs.inside.Pairs.{AllFrom, IsWavePairAt, IsPairAfter, ArePairsAfter, WaveOfLetters}
 use Rattle.vcd_compare.specs.inside.Pairs.{AreAsWide}
 use Rattle.vcd_compare.specs.inside.WalkSteps.{scaled_changes, wave_heard, AllHeardFrom, IsPairAt, ArePairsAt}
@@ -180,4 +180,66 @@ module _ (bounds : Bounds) (factor other_factor floor : ℕ) (given other_given 
         let count = at.count in
         second_given (get_or old i default) (get_or now i default) (get_or new i default) later (wide i default below)
         (at.each i default below) (after.each i default (omega (arith, count, below)));
+  }
+
+-- ---- a change of a skipped variable, which no pair gets
+
+module _ (bounds : Bounds) (factor other_factor floor : ℕ) (given other_given : List HeardChange) (h : HeardChange)
+    (variable : ℕ) (target : h.target ≡ Skipped variable) where
+  passed_change : (own_factor size position : ℕ) (hs : List HeardChange)
+      → scaled_changes own_factor size position (h ∷ hs) ≡ scaled_changes own_factor size position hs
+  passed_change own_factor size position hs = rw (ap (is_of_kept position) target) refl
+
+  pub first_passed : (old new : List SignalPair) → floor ≤ h.tick * factor
+      → ArePairsAt bounds factor other_factor floor given other_given old new
+      → ArePairsAt bounds factor other_factor (h.tick * factor) (given ++ h ∷ []) other_given old new
+  first_passed old new later at = record {
+    count = at.count;
+    each = λ i default below.
+        let p = get_or old i default in
+        let q = get_or new i default in
+        let tick : ℕ = h.tick * factor in
+        let pair = at.each i default below in
+        record {
+          others = pair.others;
+          compared = λ last left other_left upto from other_from.
+              let left_b = scaled_changes other_factor p.width p.second_variable other_left in
+              let other : WaveOfLetters =
+              wave_heard other_factor p.width p.second_variable (other_given ++ other_left) in
+              subst (λ hs. IsWavePairAt bounds last (wave_heard factor p.width p.first_variable hs) other
+              (scaled_changes factor p.width p.first_variable left) left_b q.waves)
+              (sym (append_assoc given (h ∷ []) left))
+              (subst (λ cs. IsWavePairAt bounds last (wave_heard factor p.width p.first_variable (given ++ h ∷ left))
+              other cs left_b q.waves) (passed_change factor p.width p.first_variable left)
+              (pair.compared last (h ∷ left) other_left (omega (arith, later, upto))
+              (later, from_earlier factor floor tick left later from)
+              (from_earlier other_factor floor tick other_left later other_from)));
+        };
+  }
+
+  pub second_passed : (old new : List SignalPair) → floor ≤ h.tick * other_factor
+      → ArePairsAt bounds factor other_factor floor given other_given old new
+      → ArePairsAt bounds factor other_factor (h.tick * other_factor) given (other_given ++ h ∷ []) old new
+  second_passed old new later at = record {
+    count = at.count;
+    each = λ i default below.
+        let p = get_or old i default in
+        let q = get_or new i default in
+        let tick : ℕ = h.tick * other_factor in
+        let pair = at.each i default below in
+        record {
+          others = pair.others;
+          compared = λ last left other_left upto from other_from.
+              let left_a = scaled_changes factor p.width p.first_variable left in
+              let wave : WaveOfLetters = wave_heard factor p.width p.first_variable (given ++ left) in
+              subst (λ hs. IsWavePairAt bounds last wave (wave_heard other_factor p.width p.second_variable hs) left_a
+              (scaled_changes other_factor p.width p.second_variable other_left) q.waves)
+              (sym (append_assoc other_given (h ∷ []) other_left))
+              (subst (λ cs. IsWavePairAt bounds last wave
+              (wave_heard other_factor p.width p.second_variable (other_given ++ h ∷ other_left)) left_a cs q.waves)
+              (passed_change other_factor p.width p.second_variable other_left)
+              (pair.compared last left (h ∷ other_left) (omega (arith, later, upto))
+              (from_earlier factor floor tick left later from)
+              (later, from_earlier other_factor floor tick other_left later other_from)));
+        };
   }

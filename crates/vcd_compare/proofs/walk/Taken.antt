@@ -14,16 +14,17 @@ use Rattle.vcd_text.specs.inside.reading.ChangeStream.{HasStreamed}
 use Rattle.vcd_text.specs.declared.reading.heard_changes.ChangeTarget.{ChangeTarget}
 use Rattle.vcd_text.specs.declared.reading.heard_changes.ChangeTarget.TheVariants.{Kept, Skipped}
 use Rattle.vcd_text.proofs.shared.HeardMeaning.{heard_fit, declarations_stay}
-use Rattle.vcd_compare.specs.inside.Pairs.{ArePairsAfter}
+use Rattle.vcd_compare.specs.inside.Pairs.{ArePairsAfter, AreListed}
 use Rattle.vcd_compare.specs.inside.Side.{at_hand, first_tick, IsHeardWhole}
 use Rattle.vcd_compare.specs.inside.WalkSteps.{scaled_ticks, IsPlan, IsWalkAt, IsSideSince, IsNextChange}
-use Rattle.vcd_compare.specs.inside.WalkSteps.{AreGiven}
+use Rattle.vcd_compare.specs.inside.WalkSteps.{AreGiven, ArePairsAt, IsLast}
 use Rattle.vcd_compare.specs.inside.WalkSteps.{earlier_tick}
 use Rattle.vcd_compare.specs.declared.pairs.Pairs.{Pairs}
 use Rattle.vcd_compare.specs.declared.pairs.Which.TheVariants.{First, Second}
 use Rattle.vcd_compare.specs.declared.side.Side.{Side}
 use Rattle.vcd_compare.specs.declared.walk.Walk.{Walk}
 use Rattle.vcd_compare.proofs.walk.GivenChanges.{all_first_given, all_second_given}
+use Rattle.vcd_compare.proofs.walk.GivenChanges.{first_passed, second_passed}
 use Rattle.vcd_compare.proofs.walk.Planned.{HaveOneSize, have_one_size, first_wide, second_wide}
 
 -- ---- a file
@@ -107,15 +108,12 @@ tick_at factor tick h rest hs was of = same_Some _ _ (sym (ap (first_tick factor
 
 -- ---- the variable of a change
 
--- a change of a kept variable, of which the text writes a value
-record IsFitting (kept : List VariableDeclaration) (h : HeardChange) : Type 0 where
-  variable : ℕ
-  declaration : VariableDeclaration
-  target : h.target ≡ Kept variable
-  there : slice_get kept variable ≡ Some declaration
-  reads : value_of_digits declaration.size h.text
-      ≡ Some (extension declaration.size (letters_of_digits h.text))
-  sizes : HaveOneSize kept
+-- the first variable of a change: a kept one, of which the text writes a value, or a skipped one
+data IsFitting (kept : List VariableDeclaration) (h : HeardChange) : Type 0 where
+  of_kept : (variable : ℕ) (d : VariableDeclaration) → h.target ≡ Kept variable → slice_get kept variable ≡ Some d
+      → value_of_digits d.size h.text ≡ Some (extension d.size (letters_of_digits h.text)) → HaveOneSize kept
+      → IsFitting kept h
+  of_skipped : (position : ℕ) → h.target ≡ Skipped position → IsFitting kept h
 
 some_and : (declared : List VariableDeclaration) (h : HeardChange) (variable : ℕ) (o : Option VariableDeclaration)
     → slice_get (kept_variables declared) variable ≡ o → h.target ≡ Kept variable
@@ -123,20 +121,13 @@ some_and : (declared : List VariableDeclaration) (h : HeardChange) (variable : �
     → IsSomeAnd o (λ d. value_of_digits d.size h.text ≡ Some (extension d.size (letters_of_digits h.text)))
     → IsFitting (kept_variables declared) h
 some_and declared h variable None there target sizes fits = absurd fits
-some_and declared h variable (Some d) there target sizes fits = record {
-  variable = variable;
-  declaration = d;
-  target = target;
-  there = there;
-  reads = fits;
-  sizes = sizes;
-}
+some_and declared h variable (Some d) there target sizes fits = of_kept variable d target there fits sizes
 
 by_target : (declared : List VariableDeclaration) (h : HeardChange) (target : ChangeTarget) → h.target ≡ target
     → HaveOneSize (kept_variables declared) → FitsTarget declared target h.text → IsFitting (kept_variables declared) h
 by_target declared h (Kept k) is sizes fits =
     some_and declared h k (slice_get (kept_variables declared) k) refl is sizes fits
-by_target declared h (Skipped k) is sizes fits = absurd fits
+by_target declared h (Skipped k) is sizes fits = of_skipped k is
 
 all_middle : (P : HeardChange → Type 0) (xs : List HeardChange) (y : HeardChange) (ys : List HeardChange)
     → All P (xs ++ y ∷ ys) → P y
@@ -188,19 +179,32 @@ module _ (coming other left other_left : Option (List ℕ)) (s t : ParseState) (
             (first_is_early _ _ tick next.is next.of));
         bounds = given.bounds ∙ at.bounds;
         listed = λ plan.
-            let f = fits plan in
-            given.listed f.variable _ _ f.target (at.listed plan)
-            (slice_get_within kept f.variable f.declaration f.there);
+            elim (fits plan) [
+              | of_kept variable d target there reads sizes ↦
+                  given.listed variable _ _ target (at.listed plan) (slice_get_within kept variable d there)
+              | of_skipped position target ↦
+                  subst (AreListed (length kept) (length other_kept)) (sym (given.passed position target))
+                  (at.listed plan)
+            ];
         pairs = λ plan.
-            let f = fits plan in
-            let wide = first_wide start.pairs.bounds kept other_kept start.pairs.all.items plan.planned f.variable
-            f.declaration f.sizes f.there in
-            all_first_given start.pairs.bounds factor old.second.factor at.floor at.given at.other_given h f.variable
-            f.declaration.size f.target f.reads start.pairs.all.items old.pairs.all.items pairs.all.items
-            (next_from coming left s at.given at.floor start.first old.first at.first h rest was) wide (at.pairs plan)
-            (subst (λ b. ArePairsAfter b First f.variable (h.tick * factor) h.text old.pairs.all.items pairs.all.items)
-            at.bounds (given.changed f.variable (length kept) (length other_kept) f.target (at.listed plan)
-            (slice_get_within kept f.variable f.declaration f.there)));
+            let later = next_from coming left s at.given at.floor start.first old.first at.first h rest was in
+            elim (fits plan) [
+              | of_kept variable d target there reads sizes ↦
+                  let wide = first_wide start.pairs.bounds kept other_kept start.pairs.all.items plan.planned variable d
+                  sizes there in
+                  all_first_given start.pairs.bounds factor old.second.factor at.floor at.given at.other_given h
+                  variable d.size target reads start.pairs.all.items old.pairs.all.items pairs.all.items later wide
+                  (at.pairs plan)
+                  (subst (λ b. ArePairsAfter b First variable (h.tick * factor) h.text old.pairs.all.items
+                  pairs.all.items) at.bounds (given.changed variable (length kept) (length other_kept) target
+                  (at.listed plan) (slice_get_within kept variable d there)))
+              | of_skipped position target ↦
+                  first_passed start.pairs.bounds factor old.second.factor at.floor at.given at.other_given h position
+                  target start.pairs.all.items pairs.all.items later
+                  (subst (λ (p : Pairs). ArePairsAt start.pairs.bounds factor old.second.factor at.floor at.given
+                  at.other_given start.pairs.all.items p.all.items) (sym (given.passed position target))
+                  (at.pairs plan))
+            ];
       }
 
   pub second_taken : IsNextChange most Second tick old → at_hand old.second ≡ h ∷ rest
@@ -227,20 +231,33 @@ module _ (coming other left other_left : Option (List ℕ)) (s t : ParseState) (
             now;
         bounds = given.bounds ∙ at.bounds;
         listed = λ plan.
-            let f = fits plan in
-            given.listed f.variable _ _ f.target (at.listed plan)
-            (slice_get_within other_kept f.variable f.declaration f.there);
+            elim (fits plan) [
+              | of_kept variable d target there reads sizes ↦
+                  given.listed variable _ _ target (at.listed plan) (slice_get_within other_kept variable d there)
+              | of_skipped position target ↦
+                  subst (AreListed (length kept) (length other_kept)) (sym (given.passed position target))
+                  (at.listed plan)
+            ];
         pairs = λ plan.
-            let f = fits plan in
-            let wide = second_wide start.pairs.bounds kept other_kept start.pairs.all.items plan.planned f.variable
-            f.declaration f.sizes f.there in
-            all_second_given start.pairs.bounds old.first.factor factor at.floor at.given at.other_given h f.variable
-            f.declaration.size f.target f.reads start.pairs.all.items old.pairs.all.items pairs.all.items
-            (next_from other other_left t at.other_given at.floor start.second old.second at.second h rest was) wide
-            (at.pairs plan)
-            (subst (λ b. ArePairsAfter b Second f.variable (h.tick * factor) h.text old.pairs.all.items
-            pairs.all.items) at.bounds (given.changed f.variable (length kept) (length other_kept) f.target
-            (at.listed plan) (slice_get_within other_kept f.variable f.declaration f.there)));
+            let later = next_from other other_left t at.other_given at.floor start.second old.second at.second h rest
+            was in
+            elim (fits plan) [
+              | of_kept variable d target there reads sizes ↦
+                  let wide = second_wide start.pairs.bounds kept other_kept start.pairs.all.items plan.planned variable
+                  d sizes there in
+                  all_second_given start.pairs.bounds old.first.factor factor at.floor at.given at.other_given h
+                  variable d.size target reads start.pairs.all.items old.pairs.all.items pairs.all.items later wide
+                  (at.pairs plan)
+                  (subst (λ b. ArePairsAfter b Second variable (h.tick * factor) h.text old.pairs.all.items
+                  pairs.all.items) at.bounds (given.changed variable (length kept) (length other_kept) target
+                  (at.listed plan) (slice_get_within other_kept variable d there)))
+              | of_skipped position target ↦
+                  second_passed start.pairs.bounds old.first.factor factor at.floor at.given at.other_given h position
+                  target start.pairs.all.items pairs.all.items later
+                  (subst (λ (p : Pairs). ArePairsAt start.pairs.bounds old.first.factor factor at.floor at.given
+                  at.other_given start.pairs.all.items p.all.items) (sym (given.passed position target))
+                  (at.pairs plan))
+            ];
       }
 
 -- a file with a next tick has a change at hand
@@ -248,3 +265,15 @@ pub some_first : (factor tick : ℕ) (hs : List HeardChange) → first_tick fact
     → (h : HeardChange) × (rest : List HeardChange) × (hs ≡ h ∷ rest)
 some_first factor tick [] of = absurd (cc of)
 some_first factor tick (h ∷ hs) of = (h, hs, refl)
+
+-- the last tick that both files have is the same while changes at hand are taken
+pub last_stays : (most last taken other_taken : ℕ) (old new : Walk)
+    → new.first ≡ record old.first { taken = taken } → new.second ≡ record old.second { taken = other_taken }
+    → IsLast most last old → IsLast most last new
+last_stays most last taken other_taken old new first second is =
+    subst (λ side. IsLast most last (record { first = new.first; second = side; pairs = new.pairs })) (sym second)
+    (subst (λ side. IsLast most last (record {
+      first = side;
+      second = record old.second { taken = other_taken };
+      pairs = new.pairs;
+    })) (sym first) is)

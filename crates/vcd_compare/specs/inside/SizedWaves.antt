@@ -10,7 +10,7 @@ use Rattle.vcd_compare.specs.inside.SignalPair.{PairContents}
 
 -- the two waves
 abbrev pub waves_in : SizedWaves → WavePair (List Bit)
-waves_in (Narrow waves) = waves
+waves_in (Narrow waves) = waves.value
 waves_in (Wide waves) = waves.value
 
 -- they have room for values of this width

@@ -8,7 +8,7 @@ use Rattle.vcd_text.specs.Grammar.{ParseState, kept_variables}
 use Rattle.vcd_text.specs.HeardChanges.{HeardChange, AreHeard, heard_changes}
 use Rattle.vcd_text.specs.HeardLaws.{TicksRise}
 use Rattle.vcd_text.specs.inside.reading.ChangeStream.{IsStreamAt}
-use Rattle.vcd_text.specs.declared.reading.heard_changes.ChangeTarget.TheVariants.{Kept}
+use Rattle.vcd_text.specs.declared.reading.heard_changes.ChangeTarget.TheVariants.{Kept, Skipped}
 use Rattle.vcd_compare.specs.Comparisons.{IsCompareFault}
 use Rattle.vcd_compare.specs.inside.Pairs.{WaveOfLetters, IsWavePairAt, AreListed}
 use Rattle.vcd_compare.specs.inside.Pairs.{ArePairsAfter, chosen}
@@ -118,6 +118,7 @@ pub record AreGiven (which : Which) (tick : ℕ) (h : HeardChange) (old new : Pa
   pub changed : (variable count others : ℕ) → h.target ≡ Kept variable
       → AreListed count others old → variable < chosen which count others
       → ArePairsAfter old.bounds which variable tick h.text old.all.items new.all.items
+  pub passed : (position : ℕ) → h.target ≡ Skipped position → new ≡ old
 
 -- the earlier one of two ticks
 abbrev pub earlier_tick : (tick other : Option ℕ) → Option ℕ

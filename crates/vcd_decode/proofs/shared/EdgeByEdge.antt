@@ -1,38 +1,36 @@
 -- The walk over edges for SPI words: its groups of ticks, and the annotations of an edge and of all ticks.
 use Rattle.std.proofs.Common.{◌≡◌, ℕ, ◌+◌, ◌-◌, ◌*◌, ◌^◌, ◌<◌, ◌==◌, ◌||◌, Bool, true, false, if◌then◌else◌, Option}
-use Rattle.std.proofs.Common.{Some, None, List, [], ◌∷◌, ◌++◌, map, length, reverse, get_or, refl, sym, ap, ◌∙◌, arith}
-use Rattle.std.proofs.Common.{zero, suc, ◌&&◌, cond, not, nat_lt, subst, append_assoc, add-one, inl, inr}
+use Rattle.std.proofs.Common.{Some, None, List, [], ◌∷◌, ◌++◌, map, length, get_or, refl, sym, ap, ◌∙◌, arith}
+use Rattle.std.proofs.Common.{zero, suc, ◌&&◌, cond, not, nat_lt, append_assoc, add-one, ◌⊎◌, ◌≤◌, inl, inr}
 use Rattle.std.specs.List.{list_any, filter, flat_map, onto_first, range_with_len, slice_split, AllByRecursion}
-use Rattle.std.specs.Option.{is_some, option_map}
+use Rattle.std.specs.Option.{option_map}
 use Rattle.std.proofs.Math.Nat.{pow-suc}
 use Rattle.std.proofs.Math.Seq.{get_or-append_seam}
 use Rattle.std.proofs.Math.Bool.{or-false}
-use Rattle.std.proofs.lemmas.Bool.{cond_both, lt-ltb, le-ltb, ne_eqb, and_right, cases_lt}
+use Rattle.std.proofs.lemmas.Bool.{lt-ltb, le-ltb, ne_eqb, and_right, cases_lt}
 use Rattle.std.proofs.lemmas.List.Folds.{list_any-append}
-use Rattle.std.proofs.lemmas.List.{length-append, length-map, length-reverse, reverse-append, map-append, append-nil}
+use Rattle.std.proofs.lemmas.List.{length-append, length-map, reverse-append, map-append, append-nil}
 use Rattle.vcd_core.specs.declared.bit.Bit.{Bit}
-use Rattle.vcd_core.specs.declared.bit.Bit.TheVariants.{Zero}
-use Rattle.vcd_core.specs.WaveView.{WaveView}
+use Rattle.vcd_core.specs.declared.bit.Bit.TheVariants.{Zero, One, X, Z}
 use Rattle.vcd_core.specs.declared.bit_edges.BitEdge.{BitEdge}
-use Rattle.vcd_core.specs.BitEdges.{bit_edges_of}
-use Rattle.vcd_decode.specs.declared.annotation.LineData.TheVariants.{Unknown, Number}
+use Rattle.vcd_decode.specs.declared.annotation.LineData.{LineData}
+use Rattle.vcd_decode.specs.declared.annotation.LineData.TheVariants.{Absent, Unknown, Number}
 use Rattle.vcd_decode.specs.declared.spi_setup.BitOrder.{BitOrder}
 use Rattle.vcd_decode.specs.declared.spi_setup.BitOrder.TheVariants.{Msb, Lsb}
 use Rattle.vcd_decode.specs.SpiSetup.{SpiSetup}
 use Rattle.vcd_decode.specs.Lines.{is_one, is_unclear, number_from_letters, letter_before, is_zero}
-use Rattle.vcd_decode.specs.WaveLines.{line_of}
-use Rattle.vcd_decode.specs.Spi.{ordered_number, data_of_letters, line_data, group_annotation, has_sampling_edge}
+use Rattle.vcd_decode.specs.Spi.{ordered_number, data_of_letters, group_annotation, has_sampling_edge}
 use Rattle.vcd_decode.specs.Spi.{is_selected, spi_annotations}
 use Rattle.vcd_decode.specs.inside.SpiParts.{group_start, group_end, segment_annotations, samples_rising_edge}
-use Rattle.vcd_decode.specs.inside.PartialWord.{longer_number, data_after, data_before, first_data, DataFits}
-use Rattle.vcd_decode.specs.inside.PartialWord.{group_before, word_annotation, unfinished_annotation, line_bit}
-use Rattle.vcd_decode.specs.inside.PartialWord.{group_after}
+use Rattle.vcd_decode.specs.inside.PartialWord.{longer_number, data_after, DataFits, empty_group, group_after}
+use Rattle.vcd_decode.specs.inside.PartialWord.{word_annotation, unfinished_annotation, line_bit}
 use Rattle.vcd_decode.specs.inside.SpiWords.{annotations_of_unfinished, tick_group, selects_chip, deselects_chip}
-use Rattle.vcd_decode.specs.inside.SpiWords.{is_sampling, annotations_at_edge, edge_group, edge_marks}
-use Rattle.vcd_decode.specs.inside.SpiWords.{annotations_at_marks, HasRoomForBit, SpiProgress}
+use Rattle.vcd_decode.specs.inside.SpiWords.{is_sampling, annotations_at_edge, edge_group, spi_annotations_left}
+use Rattle.vcd_decode.specs.inside.SpiWords.{edge_marks, annotations_at_marks, HasRoomForBit, group_data, SpiState}
+use Rattle.vcd_decode.specs.inside.SpiWords.{state_after}
 use Rattle.vcd_decode.specs.declared.annotation.Annotation.{Annotation}
 use Rattle.vcd_decode.specs.declared.partial_word.PartialWord.{PartialWord}
-use Rattle.vcd_decode.specs.inside.LineEdges.{lines_of, line_edge}
+use Rattle.vcd_decode.specs.LineEdges.{line_edge, AreEdgesOf}
 use Rattle.vcd_decode.specs.inside.SpiSetup.{is_present_and, samples_at}
 use Rattle.vcd_decode.proofs.shared.Groups.{groups_none, groups_short, groups_whole}
 use Rattle.vcd_decode.proofs.shared.EdgeTicks.{each_edge, over_edges}
@@ -44,14 +42,6 @@ use Rattle.vcd_decode.proofs.shared.EdgeTicks.{each_edge, over_edges}
 abbrev digit : Bit → ℕ
 digit b = if is_one b then 1 else 0
 
-digit_small : (b : Bit) → digit b < 2
-digit_small Zero = omega arith
-digit_small b = omega arith
-
-number_below : (bs : List Bit) → number_from_letters bs < 2 ^ length bs
-number_below [] = omega arith
-number_below (b ∷ bs) = omega (arith, number_below bs, digit_small b, pow-suc 2 (length bs))
-
 number_last : (bs : List Bit) (b : Bit)
     → number_from_letters (bs ++ b ∷ []) ≡ number_from_letters bs + digit b * 2 ^ length bs
 number_last [] b = omega arith
@@ -59,10 +49,6 @@ number_last (c ∷ bs) b =
     let doubled : digit b * 2 ^ length (c ∷ bs) ≡ digit b * (2 ^ length bs * 2) =
     ap (λ n. digit b * n) (pow-suc 2 (length bs)) in
     omega (arith, number_last bs b, doubled)
-
-pub ordered_below : (order : BitOrder) (bs : List Bit) → ordered_number order bs < 2 ^ length bs
-ordered_below Msb bs = omega (arith, number_below (reverse bs), ap (λ n. 2 ^ n) (length-reverse bs))
-ordered_below Lsb bs = number_below bs
 
 ordered_last : (order : BitOrder) (bs : List Bit) (b : Bit)
     → ordered_number order (bs ++ b ∷ []) ≡ longer_number order (length bs) (ordered_number order bs) (digit b)
@@ -88,39 +74,40 @@ data_last order bs b =
     choose false Zero = refl
     choose c b = refl
 
-line_last : (order : BitOrder) (line : Option (ℕ → Bit)) (ts : List ℕ) (t : ℕ) → line_data order line (ts ++ t ∷ [])
-    ≡ data_after order (length ts) (line_data order line ts) (option_map (λ f. f t) line)
-line_last order None ts t = refl
+-- the data of a line of some ticks are those of its letters
+line_letters : (order : BitOrder) (f : ℕ → Bit) (ts : List ℕ)
+    → group_data order (Some f) ts ≡ data_of_letters order (map f ts)
+line_letters Msb f [] = refl
+line_letters Lsb f [] = refl
+line_letters order f (t ∷ ts) = refl
+
+line_last : (order : BitOrder) (line : Option (ℕ → Bit)) (ts : List ℕ) (t : ℕ) → group_data order line (ts ++ t ∷ [])
+    ≡ data_after order (length ts) (group_data order line ts) (option_map (λ f. f t) line)
+line_last order None [] t = refl
+line_last order None (s ∷ ts) t = refl
 line_last order (Some f) ts t =
-    ap (data_of_letters order) (map-append f ts (t ∷ [])) ∙ data_last order (map f ts) (f t)
+    line_letters order f (ts ++ t ∷ [])
+    ∙ ap (data_of_letters order) (map-append f ts (t ∷ [])) ∙ data_last order (map f ts) (f t)
     ∙ ap (λ n. data_after order n (data_of_letters order (map f ts)) (Some (f t))) (length-map ts f)
+    ∙ ap (λ d. data_after order (length ts) d (Some (f t))) (sym (line_letters order f ts))
 
-pub line_fits : (order : BitOrder) (line : Option (ℕ → Bit)) (ts : List ℕ)
-    → DataFits (length ts) (line_data order line ts)
-line_fits order None ts = tt
-line_fits order (Some f) ts =
-    let below : ordered_number order (map f ts) < 2 ^ length ts =
-    omega (arith, ordered_below order (map f ts), ap (λ n. 2 ^ n) (length-map ts f)) in
-    cond_both (list_any is_unclear (map f ts)) Unknown (Number (ordered_number order (map f ts)))
-    (DataFits (length ts)) (λ _. tt) (λ _. below)
+number_fits : (order : BitOrder) (count n digit : ℕ) → n < 2 ^ count → digit < 2
+    → longer_number order count n digit < 2 ^ (count + 1)
+number_fits Msb count n digit fits small = omega (arith, fits, small, ap (λ k. 2 ^ k) (add-one count) ∙ pow-suc 2 count)
+number_fits Lsb count n zero fits small = omega (arith, fits, ap (λ k. 2 ^ k) (add-one count) ∙ pow-suc 2 count)
+number_fits Lsb count n (suc zero) fits small = omega (arith, fits, ap (λ k. 2 ^ k) (add-one count) ∙ pow-suc 2 count)
+number_fits Lsb count n (suc (suc digit)) fits small = absurd (omega (arith, small))
 
-pub line_first : (order : BitOrder) (wave : Option WaveView)
-    → first_data (is_some wave) ≡ line_data order (option_map line_of wave) []
-line_first order None = refl
-line_first Msb (Some w) = refl
-line_first order (Some w) = refl
-
-line_before : (order : BitOrder) (line : Option (ℕ → Bit)) (ts : List ℕ)
-    → data_before (line_data order line ts) ≡ line_data order line []
-line_before order None ts = refl
-line_before order (Some f) ts = choose (list_any is_unclear (map f ts)) order (ordered_number order (map f ts))
-  where
-    choose : (c : Bool) (order : BitOrder) (n : ℕ)
-        → data_before (if c then Unknown else Number n) ≡ line_data order (Some f) []
-    choose true Msb n = refl
-    choose true Lsb n = refl
-    choose false Msb n = refl
-    choose false Lsb n = refl
+-- with one more bit a number fits its bits
+data_fits : (order : BitOrder) (count : ℕ) (shown : LineData) (bit : Option Bit) → DataFits count shown
+    → DataFits (count + 1) (data_after order count shown bit)
+data_fits order count shown None fits = tt
+data_fits order count Absent (Some b) fits = tt
+data_fits order count Unknown (Some b) fits = tt
+data_fits order count (Number n) (Some Zero) fits = number_fits order count n 0 fits (omega arith)
+data_fits order count (Number n) (Some One) fits = number_fits order count n 1 fits (omega arith)
+data_fits order count (Number n) (Some X) fits = tt
+data_fits order count (Number n) (Some Z) fits = tt
 
 -- ---- ticks
 
@@ -148,8 +135,8 @@ module _ (u : SpiSetup) (mosi miso : Option (ℕ → Bit)) where
     start = if length ts == 0 then t else group_start ts;
     last = t;
     count = length ts + 1;
-    mosi = data_after u.order (length ts) (line_data u.order mosi ts) (option_map (λ f. f t) mosi);
-    miso = data_after u.order (length ts) (line_data u.order miso ts) (option_map (λ f. f t) miso);
+    mosi = data_after u.order (length ts) (group_data u.order mosi ts) (option_map (λ f. f t) mosi);
+    miso = data_after u.order (length ts) (group_data u.order miso ts) (option_map (λ f. f t) miso);
   } ≡ tick_group u mosi miso (ts ++ t ∷ [])
   group_last ts t =
       let start = first_last ts t in
@@ -158,13 +145,6 @@ module _ (u : SpiSetup) (mosi miso : Option (ℕ → Bit)) where
       let out = sym (line_last u.order mosi ts t) in
       let back = sym (line_last u.order miso ts t) in
       λ i. record { start = start i; last = last i; count = count i; mosi = out i; miso = back i }
-
-  -- the group before the first tick
-  pub group_none : (ts : List ℕ) → group_before (tick_group u mosi miso ts) ≡ tick_group u mosi miso []
-  group_none ts =
-      let out = line_before u.order mosi ts in
-      let back = line_before u.order miso ts in
-      λ i. record { start = 0; last = 0; count = 0; mosi = out i; miso = back i }
 
   -- the annotation of a group that is no whole word
   pub rest_is : (ts : List ℕ) → length ts < u.bits
@@ -178,9 +158,10 @@ module _ (u : SpiSetup) (mosi miso : Option (ℕ → Bit)) where
       ∙ ap (λ a. a ∷ []) seen))
 
   -- the annotation of a whole word
-  pub word_is : (ts : List ℕ) → length ts ≡ u.bits
+  pub word_is : (ts : List ℕ) → length ts ≡ u.bits → 0 < u.bits
       → group_annotation u mosi miso ts ≡ word_annotation (tick_group u mosi miso ts)
-  word_is ts whole = rw (le-ltb (length ts) u.bits (omega arith)) refl
+  word_is [] whole some = absurd (omega (arith, whole, some))
+  word_is (t ∷ ts) whole some = rw (le-ltb (length (t ∷ ts)) u.bits (omega (arith, whole))) refl
 
 -- ==== the walk over edges for SPI words: the annotations of an edge compared with those of all ticks
 
@@ -219,9 +200,8 @@ module _ (u : SpiSetup) (some : 0 < u.bits) (mosi miso : Option (ℕ → Bit)) w
       (marks : List (Option ℕ)) : Type 0 where
     pub after : List ℕ
     pub short : length after < u.bits
-    pub group : (if divides then group_before (tick_group u mosi miso ts)
-        else (if not reads then tick_group u mosi miso ts else
-        (if nat_lt (length ts + 1) u.bits then longer else group_before longer))) ≡ tick_group u mosi miso after
+    pub group : (if divides then empty_group else (if not reads then tick_group u mosi miso ts else
+        (if nat_lt (length ts + 1) u.bits then longer else empty_group))) ≡ tick_group u mosi miso after
     pub appended : (if divides then annotations_of_unfinished (tick_group u mosi miso ts)
         else (if not reads then [] else (if nat_lt (length ts + 1) u.bits then [] else word_annotation longer ∷ [])))
         ++ annotations_at_marks u mosi miso after marks
@@ -235,7 +215,7 @@ module _ (u : SpiSetup) (some : 0 < u.bits) (mosi miso : Option (ℕ → Bit)) w
   clock_step true reads longer t ts marks short is = record {
     after = [];
     short = some;
-    group = group_none u mosi miso ts;
+    group = refl;
     appended = ap (λ a. a ++ annotations_at_marks u mosi miso [] marks) (rest_is u mosi miso ts short);
   }
   clock_step false false longer t ts marks short is =
@@ -256,11 +236,11 @@ module _ (u : SpiSetup) (some : 0 < u.bits) (mosi miso : Option (ℕ → Bit)) w
             record {
               after = [];
               short = some;
-              group = rw test (ap group_before is ∙ group_none u mosi miso (ts ++ t ∷ []));
+              group = rw test refl;
               appended = rw test (
                   ap (λ g. word_annotation g ∷ annotations_at_marks u mosi miso [] marks) is
                   ∙ ap (λ a. a ∷ annotations_at_marks u mosi miso [] marks)
-                  (sym (word_is u mosi miso (ts ++ t ∷ []) whole)) ∙ sym (word_first (ts ++ t ∷ []) [] marks whole)
+                  (sym (word_is u mosi miso (ts ++ t ∷ []) whole some)) ∙ sym (word_first (ts ++ t ∷ []) [] marks whole)
                   ∙ ap (λ us. annotations_at_marks u mosi miso us marks) (append-nil (ts ++ t ∷ []))
                   );
             }
@@ -269,9 +249,6 @@ module _ (u : SpiSetup) (some : 0 < u.bits) (mosi miso : Option (ℕ → Bit)) w
   module _ (clk : ℕ → Bit) (cs : Option (ℕ → Bit)) where
     abbrev lines : List (Option (ℕ → Bit))
     lines = Some clk ∷ mosi ∷ miso ∷ cs ∷ []
-
-    abbrev SoFar : List Annotation → List Annotation → PartialWord → List BitEdge → Type 0
-    SoFar all found g left = SpiProgress u clk mosi miso cs all found g left
 
     longer_is : (e : BitEdge) (ts : List ℕ) → e ≡ line_edge lines e.tick
         → group_after u.order (tick_group u mosi miso ts) e ≡ tick_group u mosi miso (ts ++ e.tick ∷ [])
@@ -282,56 +259,23 @@ module _ (u : SpiSetup) (some : 0 < u.bits) (mosi miso : Option (ℕ → Bit)) w
           start = if length ts == 0 then e.tick else group_start ts;
           last = e.tick;
           count = length ts + 1;
-          mosi = data_after u.order (length ts) (line_data u.order mosi ts) (out i);
-          miso = data_after u.order (length ts) (line_data u.order miso ts) (back i);
+          mosi = data_after u.order (length ts) (group_data u.order mosi ts) (out i);
+          miso = data_after u.order (length ts) (group_data u.order miso ts) (back i);
         }) ∙ group_last u mosi miso ts e.tick
 
-    -- ---- the loop
-
-    pub so_far_more : (all found more : List Annotation) (g next : PartialWord) (left rest : List BitEdge) (e : BitEdge)
-        → SoFar all found g left → left ≡ e ∷ rest
-        → more ≡ found ++ annotations_at_edge u g e → next ≡ edge_group u g e → SoFar all more next rest
-    unfolding edge_marks
-    so_far_more all found more g next left rest e so_far split appended grown =
-        let ts = so_far.ticks in
-        let marks : List (Option ℕ) = flat_map (edge_marks u) rest in
-        let each = subst (AllByRecursion (λ x. x ≡ line_edge lines x.tick)) split so_far.each in
+    -- after some ticks of a segment that are no whole word, edges give the annotations of their marks
+    edges_marked : (es : List BitEdge) (ts : List ℕ) → length ts < u.bits
+        → AllByRecursion (λ e. e ≡ line_edge lines e.tick) es
+        → spi_annotations_left (record { setup = u; group = tick_group u mosi miso ts }) es
+        ≡ annotations_at_marks u mosi miso ts (flat_map (edge_marks u) es)
+    unfolding spi_annotations_left annotations_at_marks edge_marks
+    edges_marked [] ts short each = rest_is u mosi miso ts short
+    edges_marked (e ∷ es) ts short each =
         let step = clock_step (deselects_chip e) (is_sampling u e) (group_after u.order (tick_group u mosi miso ts) e)
-        e.tick ts marks so_far.short (longer_is e ts each.0) in
-        let before : found ++ annotations_at_marks u mosi miso ts (edge_marks u e ++ marks) ≡ all =
-        ap (λ (es : List BitEdge). found ++ annotations_at_marks u mosi miso ts (flat_map (edge_marks u) es))
-        (sym split) ∙ so_far.rest in
-        record {
-          ticks = step.after;
-          short = step.short;
-          is_group = grown ∙ ap (λ (x : PartialWord). edge_group u x e) so_far.is_group ∙ step.group;
-          each = each.1;
-          rest =
-              ap (λ xs. xs ++ annotations_at_marks u mosi miso step.after marks) (appended
-              ∙ ap (λ (x : PartialWord). found ++ annotations_at_edge u x e) so_far.is_group)
-              ∙ append_assoc found (annotations_at_edge u (tick_group u mosi miso ts) e)
-              (annotations_at_marks u mosi miso step.after marks) ∙ ap (λ xs. found ++ xs) step.appended ∙ before;
-        }
-
-    -- at the end the rest is annotated
-    pub so_far_ends : (all found more : List Annotation) (g : PartialWord) (left : List BitEdge)
-        → SoFar all found g left → left ≡ [] → more ≡ found ++ annotations_of_unfinished g → more ≡ all
-    unfolding annotations_at_marks
-    so_far_ends all found more g left so_far over appended =
-        let ts = so_far.ticks in
-        appended ∙ ap (λ (x : PartialWord). found ++ annotations_of_unfinished x) so_far.is_group
-        ∙ ap (λ xs. found ++ xs) (rest_is u mosi miso ts so_far.short)
-        ∙ ap (λ (es : List BitEdge). found ++ annotations_at_marks u mosi miso ts (flat_map (edge_marks u) es))
-        (sym over) ∙ so_far.rest
-
-    -- the group has room for one more bit
-    pub so_far_open : (all found : List Annotation) (g : PartialWord) (left : List BitEdge) → SoFar all found g left
-        → HasRoomForBit u g
-    so_far_open all found g left so_far =
-        let ts = so_far.ticks in
-        let open_there : HasRoomForBit u (tick_group u mosi miso ts) =
-        record { count = so_far.short; mosi = line_fits u.order mosi ts; miso = line_fits u.order miso ts } in
-        subst (HasRoomForBit u) (sym so_far.is_group) open_there
+        e.tick ts (flat_map (edge_marks u) es) short (longer_is e ts each.0) in
+        let shown : List Annotation = annotations_at_edge u (tick_group u mosi miso ts) e in
+        ap (λ (g : PartialWord). shown ++ spi_annotations_left (record { setup = u; group = g }) es) step.group
+        ∙ ap (λ xs. shown ++ xs) (edges_marked es step.after step.short each.1) ∙ step.appended
 
     -- ---- the marks of all ticks
 
@@ -417,7 +361,7 @@ module _ (u : SpiSetup) (some : 0 < u.bits) (mosi miso : Option (ℕ → Bit)) w
     unfolding spi_annotations
     all_is end = annotations_at_ticks 0 (suc end) [] (λ none. refl) ∙ parts_alone (parts 0 (suc end))
 
--- ---- the beginning
+-- ---- edges
 
 -- a clock that does not change is not sampled
 pub never_sampled : (mode : ℕ) (b : Option Bit) → samples_at mode b b ≡ false
@@ -445,30 +389,42 @@ still u e same =
     nothing true false none = refl
     nothing false reads none = refl
 
--- before the first edge everything is left
-pub so_far_none : (u : SpiSetup) → 0 < u.bits
-    → (w : WaveView) (mosi miso cs : Option WaveView) (end : ℕ) (es : List BitEdge) (found : List Annotation)
-    (g : PartialWord) (out back : Bool)
-    → es ≡ bit_edges_of (Some w ∷ mosi ∷ miso ∷ cs ∷ []) end → found ≡ [] → out ≡ is_some mosi → back ≡ is_some miso
-    → g ≡ record { start = 0; last = 0; count = 0; mosi = first_data out; miso = first_data back }
-    → SpiProgress u (line_of w) (option_map line_of mosi) (option_map line_of miso) (option_map line_of cs)
-    (spi_annotations u (line_of w) (option_map line_of mosi) (option_map line_of miso) (option_map line_of cs) end)
-    found g es
-so_far_none u some w mosi miso cs end es found g out back edges none out_is back_is is =
-    let waves : List (Option WaveView) = Some w ∷ mosi ∷ miso ∷ cs ∷ [] in
-    let first = ap first_data out_is ∙ line_first u.order mosi in
-    let second = ap first_data back_is ∙ line_first u.order miso in
-    record {
-      ticks = [];
-      short = some;
-      is_group = is ∙ (λ i. record { start = 0; last = 0; count = 0; mosi = first i; miso = second i });
-      each = subst (AllByRecursion (λ e. e ≡ line_edge (lines_of waves) e.tick)) (sym edges) (each_edge waves end);
-      rest =
-          ap (λ xs. xs ++ annotations_at_marks u (option_map line_of mosi) (option_map line_of miso) []
-          (flat_map (edge_marks u) es)) none
-          ∙ ap (λ (xs : List BitEdge). annotations_at_marks u (option_map line_of mosi) (option_map line_of miso) []
-          (flat_map (edge_marks u) xs)) edges
-          ∙ ap (annotations_at_marks u (option_map line_of mosi) (option_map line_of miso) [])
-          (over_edges waves (edge_marks u) (λ t quiet. still u (line_edge (lines_of waves) t) quiet) end)
-          ∙ all_is u some (option_map line_of mosi) (option_map line_of miso) (line_of w) (option_map line_of cs) end;
-    }
+-- edges of lines give all annotations
+pub words_are : (u : SpiSetup) → 0 < u.bits → (clk : ℕ → Bit) (mosi miso cs : Option (ℕ → Bit)) (end : ℕ)
+    (edges : List BitEdge) → AreEdgesOf (Some clk ∷ mosi ∷ miso ∷ cs ∷ []) end edges
+    → spi_annotations_left (record { setup = u; group = empty_group }) edges ≡ spi_annotations u clk mosi miso cs end
+words_are u some clk mosi miso cs end edges are =
+    let lines : List (Option (ℕ → Bit)) = Some clk ∷ mosi ∷ miso ∷ cs ∷ [] in
+    edges_marked u some mosi miso clk cs edges [] some (each_edge lines end edges are)
+    ∙ ap (annotations_at_marks u mosi miso [])
+    (over_edges lines end edges are (edge_marks u) (λ t quiet. still u (line_edge lines t) quiet))
+    ∙ all_is u some mosi miso clk cs end
+
+-- the group has room for one more bit after an edge
+pub room_after : (u : SpiSetup) (g : PartialWord) (e : BitEdge) → HasRoomForBit u g → HasRoomForBit u (edge_group u g e)
+room_after u g e room = by_tests (deselects_chip e) (is_sampling u e) (cases_lt (g.count + 1) u.bits)
+  where
+    empty : HasRoomForBit u empty_group
+    empty = record { count = omega (arith, room.count); mosi = omega arith; miso = omega arith }
+
+    by_tests : (divides reads : Bool) → (g.count + 1 < u.bits) ⊎ (u.bits ≤ g.count + 1)
+        → HasRoomForBit u (if divides then empty_group else (if not reads then g else
+        (if nat_lt (g.count + 1) u.bits then group_after u.order g e else empty_group)))
+    by_tests true reads short = empty
+    by_tests false false short = room
+    by_tests false true (inl less) = rw (lt-ltb (g.count + 1) u.bits less) (record {
+      count = less;
+      mosi = data_fits u.order g.count g.mosi (line_bit e.at 1) room.mosi;
+      miso = data_fits u.order g.count g.miso (line_bit e.at 2) room.miso;
+    })
+    by_tests false true (inr full) = rw (le-ltb (g.count + 1) u.bits full) empty
+
+-- the annotations of an edge, and then those after it
+pub edge_taken : (d : SpiState) (next : PartialWord) (e : BitEdge) (old new : List Annotation) (more : List BitEdge)
+    → new ≡ old ++ annotations_at_edge d.setup d.group e → next ≡ edge_group d.setup d.group e
+    → new ++ spi_annotations_left (record { setup = d.setup; group = next }) more
+    ≡ old ++ spi_annotations_left d (e ∷ more)
+unfolding spi_annotations_left
+edge_taken d next e old new more appended after =
+    (λ i. appended i ++ spi_annotations_left (record { setup = d.setup; group = after i }) more)
+    ∙ append_assoc old (annotations_at_edge d.setup d.group e) (spi_annotations_left (state_after d e) more)

@@ -17,7 +17,7 @@ use Rattle.vcd_core.specs.BitEdges.{lowest_bit, bit_edge, bit_edges_of}
 use Rattle.vcd_decode.specs.Lines.{letter_before}
 use Rattle.vcd_decode.specs.WaveLines.{line_of}
 use Rattle.vcd_decode.specs.inside.i2c_bus.Events.{bus_event}
-use Rattle.vcd_decode.specs.inside.LineEdges.{lines_of, line_edge}
+use Rattle.vcd_decode.specs.LineEdges.{lines_of, line_edge, AreEdgesOf}
 
 -- ---- the bits at an edge are the letters of the lines
 
@@ -98,40 +98,40 @@ map_same f g [] same = refl
 map_same f g (x ∷ xs) same = λ i. same x i ∷ map_same f g xs same i
 
 module _ (waves : List (Option WaveView)) where
-  abbrev lines : List (Option (ℕ → Bit))
-  lines = lines_of waves
-
   abbrev changes : ℕ → Bool
   changes t = list_any (changes_at t) (map trace_of waves)
 
-  -- the edges are those of the lines at the ticks at which one changes
-  edges_are : (end : ℕ) → bit_edges_of waves end ≡ map (line_edge lines) (filter changes (range_with_len 0 (suc end)))
+  -- the edges of waves are those of their lines
+  pub bit_edges_are : (end : ℕ) → AreEdgesOf (lines_of waves) end (bit_edges_of waves end)
   unfolding edges_on
-  edges_are end =
-      map-map bit_edge (edge_on (map trace_of waves)) (filter changes (range_with_len 0 (suc end)))
-      ∙ map_same (λ t. bit_edge (edge_on (map trace_of waves) t)) (line_edge lines)
-      (filter changes (range_with_len 0 (suc end))) (edge_is waves)
+  bit_edges_are end = record {
+    shown = changes;
+    at_shown = map-map bit_edge (edge_on (map trace_of waves)) (filter changes (range_with_len 0 (suc end)))
+        ∙ map_same (λ t. bit_edge (edge_on (map trace_of waves) t)) (line_edge (lines_of waves))
+        (filter changes (range_with_len 0 (suc end))) (edge_is waves);
+    still = still_bits waves;
+  }
 
+module _ (lines : List (Option (ℕ → Bit))) (end : ℕ) (edges : List BitEdge) (are : AreEdgesOf lines end edges) where
   -- each edge is that of the lines at its tick
-  pub each_edge : (end : ℕ) → AllByRecursion (λ e. e ≡ line_edge lines e.tick) (bit_edges_of waves end)
-  each_edge end =
+  pub each_edge : AllByRecursion (λ e. e ≡ line_edge lines e.tick) edges
+  each_edge =
       let P : BitEdge → Type 0 = λ e. e ≡ line_edge lines e.tick in
-      recursion_from_All P (bit_edges_of waves end) (subst (All P) (sym (edges_are end))
-      (All-map P (line_edge lines) (filter changes (range_with_len 0 (suc end))) (λ k d less. refl)))
+      recursion_from_All P edges (subst (All P) (sym are.at_shown)
+      (All-map P (line_edge lines) (filter are.shown (range_with_len 0 (suc end))) (λ k d less. refl)))
 
-  module _ {A : Type 0} (g : BitEdge → List A) (still : (t : ℕ) → (line_edge lines t).at ≡ (line_edge lines t).before
-      → g (line_edge lines t) ≡ []) where
-    over_kept : (ticks : List ℕ)
-        → flat_map g (map (line_edge lines) (filter changes ticks)) ≡ flat_map (λ t. g (line_edge lines t)) ticks
-    over_kept [] = refl
-    over_kept (t ∷ ticks) =
-        let all = flat_map (λ u. g (line_edge lines u)) ticks in
-        cond_both (changes t) (t ∷ filter changes ticks) (filter changes ticks)
-        (λ kept. flat_map g (map (line_edge lines) kept) ≡ g (line_edge lines t) ++ all)
-        (λ _. ap (λ xs. g (line_edge lines t) ++ xs) (over_kept ticks))
-        (λ none. over_kept ticks ∙ ap (λ xs. xs ++ all) (sym (still t (still_bits waves t none))))
-
-    -- a list that is empty where no line changes
-    pub over_edges : (end : ℕ)
-        → flat_map g (bit_edges_of waves end) ≡ flat_map (λ t. g (line_edge lines t)) (range_with_len 0 (suc end))
-    over_edges end = ap (flat_map g) (edges_are end) ∙ over_kept (range_with_len 0 (suc end))
+  -- a list that is empty where no line changes
+  pub over_edges : {A : Type 0} (g : BitEdge → List A)
+      → ((t : ℕ) → (line_edge lines t).at ≡ (line_edge lines t).before → g (line_edge lines t) ≡ [])
+      → flat_map g edges ≡ flat_map (λ t. g (line_edge lines t)) (range_with_len 0 (suc end))
+  over_edges {A} g still = ap (flat_map g) are.at_shown ∙ over_shown (range_with_len 0 (suc end))
+    where
+      over_shown : (ticks : List ℕ)
+          → flat_map g (map (line_edge lines) (filter are.shown ticks)) ≡ flat_map (λ t. g (line_edge lines t)) ticks
+      over_shown [] = refl
+      over_shown (t ∷ ticks) =
+          let all = flat_map (λ u. g (line_edge lines u)) ticks in
+          cond_both (are.shown t) (t ∷ filter are.shown ticks) (filter are.shown ticks)
+          (λ shown. flat_map g (map (line_edge lines) shown) ≡ g (line_edge lines t) ++ all)
+          (λ _. ap (λ xs. g (line_edge lines t) ++ xs) (over_shown ticks))
+          (λ none. over_shown ticks ∙ ap (λ xs. xs ++ all) (sym (still t (are.still t none))))

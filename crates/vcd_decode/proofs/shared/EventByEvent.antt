@@ -1,35 +1,33 @@
 -- The walk over a bus: its events are those at the edges, and taken one at a time they give all annotations.
 use Rattle.std.proofs.Common.{◌≡◌, ℕ, zero, suc, Option, Some, None, List, [], ◌∷◌, ◌++◌, refl, sym, ap, ◌∙◌}
-use Rattle.std.proofs.Common.{option_to_list, map, All, ◌+◌, ◌-◌, ◌<◌, if◌then◌else◌, length, fold, arith, add-zero}
-use Rattle.std.proofs.Common.{◌≤◌, ◌==◌, nat_le, Bool, true, false, Result, Ok, Err, OnOk, IfOk, take, inl, inr}
-use Rattle.std.specs.Prelude.{filter, slice_index}
+use Rattle.std.proofs.Common.{option_to_list, ◌+◌, ◌-◌, ◌<◌, if◌then◌else◌, length, fold, arith, add-zero}
+use Rattle.std.proofs.Common.{◌≤◌, ◌==◌, nat_le, Bool, true, false, take, inl, inr}
+use Rattle.std.specs.Prelude.{slice_index}
 use Rattle.std.specs.List.{filter_map, flat_map, range_with_len, list_any, cons_option, slice_get}
-use Rattle.std.proofs.lemmas.List.Elements.{All-map}
 use Rattle.std.proofs.lemmas.Bool.{ne_eqb, cases_eq, cond_both}
 use Rattle.std.specs.Option.{option_or}
 use Rattle.std.proofs.lemmas.Bool.Decides.{Decides-eqb}
 use Rattle.std.proofs.lemmas.List.{length_push, take_at, drop_at, append-nil, append_assoc}
 use Rattle.std.proofs.lemmas.List.Sums.{fold-append}
 use Rattle.vcd_core.specs.declared.bit.Bit.{Bit}
-use Rattle.vcd_core.specs.Edges.{trace_of, changes_at, edge_on, edges_on}
-use Rattle.vcd_core.specs.BitEdges.{bit_edge, bit_edges_of}
+use Rattle.vcd_core.specs.declared.bit_edges.BitEdge.{BitEdge}
+use Rattle.vcd_core.specs.BitEdges.{bit_edges_of}
 use Rattle.vcd_core.specs.WaveView.{WaveView}
-use Rattle.vcd_core.specs.declared.memory.NoMemory.{NoMemory}
 use Rattle.vcd_decode.specs.Lines.{letter_before, annotation}
-use Rattle.vcd_decode.specs.WaveLines.{line_of}
 use Rattle.vcd_decode.specs.BusEvents.{bus_event_at, bus_events}
 use Rattle.vcd_decode.specs.inside.i2c_bus.Events.{bus_event}
-use Rattle.vcd_decode.specs.inside.i2c_bus.BusWalk.{levels_of, IsBusEdge, edge_event, edge_events, no_bits}
+use Rattle.vcd_decode.specs.inside.i2c_bus.BusWalk.{levels_of, edge_event, edge_events, no_bits}
 use Rattle.vcd_decode.specs.inside.i2c_bus.BusWalk.{partial_byte_with, partial_byte_of, transfer_rest_annotations}
 use Rattle.vcd_decode.specs.inside.i2c_bus.BusWalk.{whole_byte_annotations, transfer_after_byte, event_annotations}
 use Rattle.vcd_decode.specs.inside.i2c_bus.BusWalk.{bus_after, walk_annotations}
-use Rattle.vcd_decode.specs.inside.LineEdges.{lines_of, line_edge}
+use Rattle.vcd_decode.specs.WaveLines.{line_of}
+use Rattle.vcd_decode.specs.LineEdges.{line_edge, AreEdgesOf}
 use Rattle.vcd_decode.specs.declared.i2c_bus.events.BusBit.{BusBit}
 use Rattle.vcd_decode.specs.declared.i2c_bus.bytes.PartialByte.{PartialByte}
 use Rattle.vcd_decode.specs.BusBytes.{number_with, number_of_bits, byte_kind, role_after, acknowledge_kind}
 use Rattle.vcd_decode.specs.BusBytes.{ten_bit_address}
 use Rattle.vcd_decode.specs.I2c.{ticks_of, bits_annotation, byte_annotations, rest_annotations, nines_annotations}
-use Rattle.vcd_decode.specs.I2c.{bits_until, is_condition, shown_address, annotations_of_events}
+use Rattle.vcd_decode.specs.I2c.{bits_until, is_condition, shown_address, annotations_of_events, i2c_annotations}
 use Rattle.vcd_decode.specs.declared.annotation.Annotation.{Annotation}
 use Rattle.vcd_decode.specs.declared.annotation.Kind.TheVariants as kinds
 use Rattle.vcd_decode.specs.declared.i2c_bus.events.BusEvent.{BusEvent}
@@ -38,7 +36,7 @@ use Rattle.vcd_decode.specs.declared.i2c_bus.bytes.ByteRole.{ByteRole}
 use Rattle.vcd_decode.specs.declared.i2c_bus.bytes.ByteRole.TheVariants as roles
 use Rattle.vcd_decode.specs.declared.i2c_bus.transfer.Transfer.{Transfer}
 use Rattle.vcd_decode.specs.Groups.{groups_of}
-use Rattle.vcd_decode.proofs.shared.EdgeTicks.{over_edges, cons_is, nothing_happens}
+use Rattle.vcd_decode.proofs.shared.EdgeTicks.{bit_edges_are, over_edges, cons_is, nothing_happens}
 use Rattle.vcd_decode.proofs.shared.Groups.{groups_none, groups_short, groups_whole}
 
 -- ==== the events at the edges of two lines are those at all ticks
@@ -47,35 +45,31 @@ as_lists : {A B : Type 0} (f : A → Option B) (xs : List A) → filter_map f xs
 as_lists f [] = refl
 as_lists f (x ∷ xs) = cons_is (f x) (filter_map f xs) ∙ ap (λ ys. option_to_list (f x) ++ ys) (as_lists f xs)
 
-module _ (scl sda : WaveView) where
-  abbrev pub bus_waves : List (Option WaveView)
-  bus_waves = Some scl ∷ Some sda ∷ None ∷ None ∷ []
+module _ (scl sda : ℕ → Bit) where
+  abbrev pub bus_lines : List (Option (ℕ → Bit))
+  bus_lines = Some scl ∷ Some sda ∷ None ∷ None ∷ []
 
-  -- each edge has both lines
-  pub each_is_bus_edge : (end : ℕ) → All IsBusEdge (bit_edges_of bus_waves end)
-  unfolding edges_on
-  each_is_bus_edge end = All-map IsBusEdge bit_edge _
-      (All-map (λ e. IsBusEdge (bit_edge e)) (edge_on (map trace_of bus_waves))
-      (filter (λ t. list_any (changes_at t) (map trace_of bus_waves)) (range_with_len 0 (suc end)))
-      (λ k d within. has_both _))
-    where
-      has_both : (t : ℕ) → IsBusEdge (bit_edge (edge_on (map trace_of bus_waves) t))
-      has_both zero = ((_, _, refl), (_, _, refl))
-      has_both (suc t) = ((_, _, refl), (_, _, refl))
-
-  still : (t : ℕ) → (line_edge (lines_of bus_waves) t).at ≡ (line_edge (lines_of bus_waves) t).before
-      → option_to_list (edge_event (line_edge (lines_of bus_waves) t)) ≡ []
+  still : (t : ℕ) → (line_edge bus_lines t).at ≡ (line_edge bus_lines t).before
+      → option_to_list (edge_event (line_edge bus_lines t)) ≡ []
   still t same =
       ap (λ (letters : List (Option Bit)). option_to_list
-      (bus_event t (levels_of (line_edge (lines_of bus_waves) t).before) (levels_of letters))) same
-      ∙ ap option_to_list (nothing_happens t (letter_before (line_of scl) t) (letter_before (line_of sda) t))
+      (bus_event t (levels_of (line_edge bus_lines t).before) (levels_of letters))) same
+      ∙ ap option_to_list (nothing_happens t (letter_before scl t) (letter_before sda t))
 
-  pub events_are : (end : ℕ) → edge_events (bit_edges_of bus_waves end) ≡ bus_events (line_of scl) (line_of sda) end
+  pub events_are : (end : ℕ) (edges : List BitEdge) → AreEdgesOf bus_lines end edges
+      → edge_events edges ≡ bus_events scl sda end
   unfolding bus_events
-  events_are end =
-      as_lists edge_event (bit_edges_of bus_waves end)
-      ∙ over_edges bus_waves (λ e. option_to_list (edge_event e)) still end
-      ∙ sym (as_lists (bus_event_at (line_of scl) (line_of sda)) (range_with_len 0 (suc end)))
+  events_are end edges are =
+      as_lists edge_event edges
+      ∙ over_edges bus_lines end edges are (λ e. option_to_list (edge_event e)) still
+      ∙ sym (as_lists (bus_event_at scl sda) (range_with_len 0 (suc end)))
+
+-- those of two waves are the events of their lines
+pub bus_waves_events : (scl sda : WaveView) (end : ℕ)
+    → edge_events (bit_edges_of (Some scl ∷ Some sda ∷ None ∷ None ∷ []) end)
+    ≡ bus_events (line_of scl) (line_of sda) end
+bus_waves_events scl sda end =
+    events_are (line_of scl) (line_of sda) end _ (bit_edges_are (Some scl ∷ Some sda ∷ None ∷ None ∷ []) end)
 
 -- ==== the state of the current bits
 
@@ -344,22 +338,19 @@ walked (events.Stop t ∷ es) =
 pub walk_is : (es : List BusEvent) → walk_annotations None es ≡ annotations_of_events false None es
 walk_is es = (walked es).0
 
+-- edges of the lines of a free bus give all annotations
+pub bus_annotations_are : (scl sda : ℕ → Bit) (end : ℕ) (edges : List BitEdge)
+    → AreEdgesOf (bus_lines scl sda) end edges
+    → walk_annotations None (edge_events edges) ≡ i2c_annotations scl sda end
+bus_annotations_are scl sda end edges are =
+    ap (walk_annotations None) (events_are scl sda end edges are) ∙ walk_is (bus_events scl sda end)
+
 -- the annotations of an event, and then those after it
-pub event_taken : (r : Result (Option Transfer) NoMemory) (old new : List Annotation) (bus : Option Transfer)
-    (seen : Option BusEvent) (e : BusEvent) → seen ≡ Some e
-    → OnOk r (new ≡ old ++ event_annotations bus e) → IfOk r (λ next. next ≡ bus_after bus e)
-    → IfOk r (λ next. (es : List BusEvent)
-    → new ++ walk_annotations next es ≡ old ++ walk_annotations bus (cons_option seen es))
+pub event_taken : (old new : List Annotation) (bus next : Option Transfer) (seen : Option BusEvent) (e : BusEvent)
+    (es : List BusEvent) → seen ≡ Some e → new ≡ old ++ event_annotations bus e → next ≡ bus_after bus e
+    → new ++ walk_annotations next es ≡ old ++ walk_annotations bus (cons_option seen es)
 unfolding walk_annotations
-event_taken (Err fault) old new bus seen e is annotations after = tt
-event_taken (Ok next) old new bus seen e is annotations after = λ es.
+event_taken old new bus next seen e es is annotations after =
     (λ i. annotations i ++ walk_annotations (after i) es)
     ∙ append_assoc old (event_annotations bus e) (walk_annotations (bus_after bus e) es)
     ∙ ap (λ (o : Option BusEvent). old ++ walk_annotations bus (cons_option o es)) (sym is)
-
--- where no event is left, the annotations found are all
-pub all_found : (found : List Annotation) (bus : Option Transfer) (left : List BusEvent) (all : List Annotation)
-    → left ≡ [] → found ++ walk_annotations bus left ≡ all → found ≡ all
-unfolding walk_annotations
-all_found found bus left all none is = sym (append-nil found)
-    ∙ ap (λ (es : List BusEvent). found ++ walk_annotations bus es) (sym none) ∙ is

@@ -1,5 +1,5 @@
 -- The bits of an SPI word so far, and one more.
-use Rattle.std.specs.Prelude.{ℕ, ◌+◌, ◌*◌, ◌^◌, ◌==◌, ◌<◌, Bool, true, false, if◌then◌else◌, Option}
+use Rattle.std.specs.Prelude.{ℕ, ◌+◌, ◌*◌, ◌^◌, ◌==◌, ◌<◌, if◌then◌else◌, Option}
 use Rattle.std.specs.Prelude.{Some, None, List, slice_index_or}
 use Rattle.vcd_core.specs.declared.bit.Bit.{Bit}
 use Rattle.vcd_core.specs.declared.bit.Bit.TheVariants.{Zero, One, X, Z}
@@ -38,21 +38,10 @@ number_after order count number (Some digit) = Number (longer_number order count
 
 -- the data of a line after one more bit; none if it is absent
 abbrev pub data_after : BitOrder → ℕ → LineData → Option Bit → LineData
-data_after order count Absent bit = Absent
-data_after order count Unknown bit = Unknown
-data_after order count (Number n) None = Number n
+data_after order count shown None = Absent
+data_after order count Absent (Some b) = Absent
+data_after order count Unknown (Some b) = Unknown
 data_after order count (Number n) (Some b) = number_after order count n (digit_of b)
-
--- the data of a line before the first bit
-abbrev pub data_before : LineData → LineData
-data_before Absent = Absent
-data_before Unknown = Number 0
-data_before (Number n) = Number 0
-
--- the data of a line before the first bit, by whether it is present
-abbrev pub first_data : Bool → LineData
-first_data false = Absent
-first_data true = Number 0
 
 -- a number fits its bits
 abbrev pub DataFits : ℕ → LineData → Type 0
@@ -61,14 +50,8 @@ DataFits count Unknown = Unit {0}
 DataFits count (Number n) = n < 2 ^ count
 
 -- the group before its first bit
-abbrev pub group_before : PartialWord → PartialWord
-group_before g = record {
-  start = 0;
-  last = 0;
-  count = 0;
-  mosi = data_before g.mosi;
-  miso = data_before g.miso;
-}
+abbrev pub empty_group : PartialWord
+empty_group = record { start = 0; last = 0; count = 0; mosi = Number 0; miso = Number 0 }
 
 -- the group with the bits of an edge
 abbrev pub group_after : BitOrder → PartialWord → BitEdge → PartialWord

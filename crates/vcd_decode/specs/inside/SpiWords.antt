@@ -1,18 +1,19 @@
 -- The walk over edges for SPI words: the annotations of each edge, and the group of bits after it.
-use Rattle.std.specs.Prelude.{ℕ, ◌≡◌, ◌+◌, ◌==◌, ◌<◌, ◌&&◌, nat_lt, Bool, true, not, if◌then◌else◌}
+use Rattle.std.specs.Prelude.{ℕ, ◌+◌, ◌==◌, ◌<◌, ◌&&◌, nat_lt, Bool, true, not, if◌then◌else◌}
 use Rattle.std.specs.Prelude.{Option, Some, None, List, [], ◌∷◌, ◌++◌, length}
-use Rattle.std.specs.List.{flat_map, AllByRecursion}
 use Rattle.vcd_core.specs.declared.bit.Bit.{Bit}
 use Rattle.vcd_core.specs.declared.bit_edges.BitEdge.{BitEdge}
 use Rattle.vcd_decode.specs.declared.annotation.Annotation.{Annotation}
+use Rattle.vcd_decode.specs.declared.annotation.LineData.{LineData}
+use Rattle.vcd_decode.specs.declared.annotation.LineData.TheVariants.{Number}
 use Rattle.vcd_decode.specs.declared.partial_word.PartialWord.{PartialWord}
+use Rattle.vcd_decode.specs.declared.spi_setup.BitOrder.{BitOrder}
 use Rattle.vcd_decode.specs.SpiSetup.{SpiSetup}
 use Rattle.vcd_decode.specs.Lines.{is_zero}
 use Rattle.vcd_decode.specs.Spi.{line_data}
 use Rattle.vcd_decode.specs.inside.SpiParts.{group_start, group_end, segment_annotations}
-use Rattle.vcd_decode.specs.inside.LineEdges.{line_edge}
 use Rattle.vcd_decode.specs.inside.SpiSetup.{samples_at}
-use Rattle.vcd_decode.specs.inside.PartialWord.{line_bit, DataFits, group_before, group_after}
+use Rattle.vcd_decode.specs.inside.PartialWord.{line_bit, DataFits, empty_group, group_after}
 use Rattle.vcd_decode.specs.inside.PartialWord.{word_annotation, unfinished_annotation}
 
 -- ---- the tests of an edge
@@ -55,7 +56,7 @@ abbrev pub bit_group : SpiSetup → PartialWord → BitEdge → PartialWord
 bit_group u g e =
     if not (is_sampling u e) then g
     else (if nat_lt (g.count + 1) u.bits then group_after u.order g e
-    else group_before (group_after u.order g e))
+    else empty_group)
 
 -- the annotations of any edge
 abbrev pub annotations_at_edge : SpiSetup → PartialWord → BitEdge → List Annotation
@@ -64,9 +65,31 @@ annotations_at_edge u g e = if deselects_chip e then annotations_of_unfinished g
 
 -- the group after any edge
 abbrev pub edge_group : SpiSetup → PartialWord → BitEdge → PartialWord
-edge_group u g e = if deselects_chip e then group_before g else bit_group u g e
+edge_group u g e = if deselects_chip e then empty_group else bit_group u g e
+
+-- ---- a decoder
+
+-- what a decoder holds
+pub record SpiState : Type 0 where
+  pub setup : SpiSetup
+  pub group : PartialWord
+
+-- a decoder after an edge
+abbrev pub state_after : SpiState → BitEdge → SpiState
+state_after d e = record { setup = d.setup; group = edge_group d.setup d.group e }
+
+-- the annotations that a decoder has left to give for the edges to come, up to the last
+unfoldable pub spi_annotations_left : SpiState → List BitEdge → List Annotation
+spi_annotations_left d [] = annotations_of_unfinished d.group
+spi_annotations_left d (e ∷ es) =
+    annotations_at_edge d.setup d.group e ++ spi_annotations_left (state_after d e) es
 
 -- ---- the same by ticks
+
+-- the data of a line at the ticks of a group
+abbrev pub group_data : BitOrder → Option (ℕ → Bit) → List ℕ → LineData
+group_data order line [] = Number 0
+group_data order line (t ∷ ts) = line_data order line (t ∷ ts)
 
 -- the group of some ticks
 abbrev pub tick_group : SpiSetup → Option (ℕ → Bit) → Option (ℕ → Bit) → List ℕ → PartialWord
@@ -74,8 +97,8 @@ tick_group u mosi miso ticks = record {
   start = group_start ticks;
   last = group_end ticks;
   count = length ticks;
-  mosi = line_data u.order mosi ticks;
-  miso = line_data u.order miso ticks;
+  mosi = group_data u.order mosi ticks;
+  miso = group_data u.order miso ticks;
 }
 
 -- the mark of an edge: a sampling tick, or none if the chip is deselected
@@ -92,14 +115,3 @@ annotations_at_marks u mosi miso ticks (None ∷ marks) =
     segment_annotations u mosi miso ticks ++ annotations_at_marks u mosi miso [] marks
 annotations_at_marks u mosi miso ticks (Some t ∷ marks) =
     annotations_at_marks u mosi miso (ticks ++ t ∷ []) marks
-
--- the annotations so far and those to come are all annotations: the group has the ticks of a
--- segment that are no whole word yet
-pub record SpiProgress (u : SpiSetup) (clk : ℕ → Bit) (mosi miso cs : Option (ℕ → Bit))
-    (all found : List Annotation)
-    (group : PartialWord) (left : List BitEdge) : Type 0 where
-  pub ticks : List ℕ
-  pub short : length ticks < u.bits
-  pub is_group : group ≡ tick_group u mosi miso ticks
-  pub each : AllByRecursion (λ e. e ≡ line_edge (Some clk ∷ mosi ∷ miso ∷ cs ∷ []) e.tick) left
-  pub rest : found ++ annotations_at_marks u mosi miso ticks (flat_map (edge_marks u) left) ≡ all

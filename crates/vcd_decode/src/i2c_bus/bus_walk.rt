@@ -1,17 +1,16 @@
 //! The walk over the two lines of a bus.
 
-ghost use Rattle.std.specs.Prelude.{◌≡◌, ◌++◌, None, List, All, IfOk};
-ghost use Rattle.std.specs.List.{cons_option};
+ghost use Rattle.std.specs.Prelude.{◌≡◌, ◌++◌, ◌∷◌, [], IfOk, OnOk};
 ghost use Rattle.vcd_core.specs.Wave.{AllUpTo};
 ghost use Rattle.vcd_decode.specs.WaveLines.{line_of};
 ghost use Rattle.vcd_decode.specs.I2c.{i2c_annotations};
-ghost use Rattle.vcd_decode.specs.declared.i2c_bus.events.BusEvent.{BusEvent};
 ghost use Rattle.vcd_decode.specs.inside.i2c_bus.BusWalk as walk;
 
 use crate::annotation::Annotation;
 use crate::i2c_bus::events::{BusEvent, BusLevels, bus_event};
 use crate::i2c_bus::transfer::{Transfer, take_event};
 use std::alloc::Global;
+use std::marker::Model;
 use vcd_core::{Bit, BitEdge, BitEdges, NoMemory, Wave};
 
 /// The annotations of an I2C bus with the lines `scl` and `sda`, up to the tick `end` (UM10204,
@@ -40,59 +39,86 @@ pub fn i2c<'a>(
     ensures { IfOk result (λ found.
         found.items ≡ i2c_annotations (line_of scl.now) (line_of sda.now) end) }
 {
-    annotations_of(alloc, BitEdges::new(Some(scl), Some(sda), None, None))
-}
-
-/// The annotations of the edges of SCL and SDA.
-fn annotations_of(alloc: Global, edges: BitEdges) -> Result<Vec<Annotation>, NoMemory>
-    requires { All walk.IsBusEdge edges }
-    ensures { IfOk result (λ found.
-        found.items ≡ walk.walk_annotations None (walk.edge_events edges.entry)) }
-{
     let mut found = Vec::new(alloc);
-    let mut transfer = None;
-    for edge in edges {
-        transfer = take_line_edge(&mut found, transfer, edge)?;
+    let mut decoder = I2cDecoder::new();
+    for edge in BitEdges::new(Some(scl), Some(sda), None, None) {
+        decoder.take(&mut found, edge)?;
     }
+    decoder.finish();
     Ok(found)
 }
 
-/// Appends the annotations of an edge. Returns the transfer after it.
-fn take_line_edge(
-    found: &mut Vec<Annotation>,
+/// What [`i2c`] does at each edge, for lines whose edges come one at a time. It holds the bits of
+/// one byte.
+///
+/// Contracts see the annotations that are left to give, for any edges to come.
+#[derive(Drop)]
+pub struct I2cDecoder {
     transfer: Option<Transfer>,
-    edge: BitEdge,
-) -> Result<Option<Transfer>, NoMemory>
-    requires sound { walk.IsSoundTransfer transfer }
-    requires lines { walk.IsBusEdge edge }
-    ensures annotations { IfOk result (λ next. (es : List BusEvent)
-        → found.new.items ++ walk.walk_annotations next es
-        ≡ found.old.items ++ walk.walk_annotations transfer
-        (cons_option (walk.edge_event edge) es)) }
-    ensures sound { IfOk result walk.IsSoundTransfer }
-{
-    match edge_event(edge) {
-        Some(event) => take_event(found, transfer, event),
-        None => Ok(transfer),
+}
+
+impl Model for I2cDecoder {
+    ghost use Rattle.std.specs.Prelude.{Option};
+    ghost use Rattle.vcd_decode.specs.declared.i2c_bus.transfer.Transfer.{Transfer};
+    ghost use Rattle.vcd_decode.specs.inside.i2c_bus.BusWalk.{IsSoundTransfer};
+
+    ghost Value = { Option Transfer };
+
+    ghost view = { λ d. d.transfer };
+
+    ghost invariant = { λ d. IsSoundTransfer d.transfer };
+}
+
+impl I2cDecoder {
+    ghost use Rattle.std.specs.Prelude.{ℕ, List, Some, None};
+    ghost use Rattle.vcd_core.specs.declared.bit.Bit.{Bit};
+    ghost use Rattle.vcd_core.specs.declared.bit_edges.BitEdge.{BitEdge};
+    ghost use Rattle.vcd_decode.specs.LineEdges.{AreEdgesOf};
+
+    /// The decoder before the first edge. The lines of an edge are SCL and SDA.
+    pub fn new() -> I2cDecoder
+        ensures { (scl sda : ℕ → Bit) (end : ℕ) (edges : List BitEdge)
+            → AreEdgesOf (Some scl ∷ Some sda ∷ None ∷ None ∷ []) end edges
+            → walk.i2c_annotations_left result edges ≡ i2c_annotations scl sda end }
+    {
+        I2cDecoder { transfer: None }
+    }
+
+    /// Takes the next edge, and appends the annotations that it completes.
+    pub fn take(&mut self, found: &mut Vec<Annotation>, edge: BitEdge) -> Result<(), NoMemory>
+        ensures { OnOk result ((more : List BitEdge)
+            → found.new.items ++ walk.i2c_annotations_left self.new more
+            ≡ found.old.items ++ walk.i2c_annotations_left self.old (edge ∷ more)) }
+    {
+        if let Some(event) = edge_event(edge) {
+            self.transfer = take_event(found, self.transfer, event)?;
+        }
+        Ok(())
+    }
+
+    /// Ends the decoding: bits that the end of the capture cuts off give no annotation.
+    #[tactic(auto, unfolding(crate::specs::inside::i2c_bus::BusWalk::walk_annotations))]
+    pub fn finish(self)
+        ensures { walk.i2c_annotations_left self [] ≡ [] }
+    {
+        let _transfer = self.transfer;
     }
 }
 
 /// The event at an edge, if there is one.
 pub fn edge_event(edge: BitEdge) -> Option<BusEvent>
-    requires { walk.IsBusEdge edge }
     ensures { result ≡ walk.edge_event edge }
 {
     let before = levels_of(edge.before);
     bus_event(edge.tick, before, levels_of(edge.at))
 }
 
-/// The levels of the first two of these lines.
+/// The levels of the first two of these lines, x if one is absent.
 pub fn levels_of(bits: [Option<Bit>; 4]) -> BusLevels
-    requires { walk.HasBothLines bits }
     ensures { result ≡ walk.levels_of bits }
 {
     BusLevels {
-        scl: bits[0].unwrap(),
-        sda: bits[1].unwrap(),
+        scl: bits[0].unwrap_or(Bit::X),
+        sda: bits[1].unwrap_or(Bit::X),
     }
 }

@@ -1,13 +1,12 @@
 -- The edges at which SCL rises and SDA changes.
 use Rattle.std.proofs.Common.{◌≡◌, ◌<◌, ◌^◌, ◌&&◌, ◌||◌, ℕ, Bool, false, Option, Some, None, length, refl, ap}
-use Rattle.std.proofs.Common.{◌∙◌}
+use Rattle.std.proofs.Common.{List, [], ◌∷◌, ◌∙◌}
 use Rattle.vcd_core.specs.declared.bit.Bit.{Bit}
 use Rattle.vcd_core.specs.declared.bit.Bit.TheVariants.{Zero, One, X, Z}
 use Rattle.vcd_core.specs.BitEdges.{bit_edges_of}
 use Rattle.vcd_core.specs.WaveView.{WaveView}
 use Rattle.vcd_decode.specs.WaveLines.{line_of}
 use Rattle.vcd_decode.specs.inside.PartialWord.{line_bit}
-use Rattle.vcd_decode.proofs.shared.EventByEvent.{bus_waves}
 use Rattle.vcd_remarks.specs.BusFindings.{has_joint_rise}
 use Rattle.vcd_remarks.specs.FoundTicks.{ticks_where}
 use Rattle.vcd_remarks.specs.inside.JointRises.{rise, fall, is_joint_rise}
@@ -22,9 +21,12 @@ never_rises (Some X) = refl
 never_rises (Some Z) = refl
 
 module _ (scl sda : WaveView) (end : ℕ) where
-  pub all_joint : edge_ticks is_joint_rise (bit_edges_of (bus_waves scl sda) end)
+  abbrev bus_waves : List (Option WaveView)
+  bus_waves = Some scl ∷ Some sda ∷ None ∷ None ∷ []
+
+  pub all_joint : edge_ticks is_joint_rise (bit_edges_of bus_waves end)
       ≡ ticks_where (has_joint_rise (line_of scl) (line_of sda)) end
-  all_joint = edges_as_ticks (bus_waves scl sda) is_joint_rise (has_joint_rise (line_of scl) (line_of sda))
+  all_joint = edges_as_ticks bus_waves is_joint_rise (has_joint_rise (line_of scl) (line_of sda))
       (λ t. refl)
       (λ e same.
       let second : Bool = rise (line_bit e.before 1) (line_bit e.at 1)

@@ -8,8 +8,8 @@ use Rattle.std.specs.List.{filter, flat_map, range_with_len}
 use Rattle.vcd_core.specs.declared.bit_edges.BitEdge.{BitEdge}
 use Rattle.vcd_core.specs.WaveView.{WaveView}
 use Rattle.vcd_core.specs.BitEdges.{bit_edges_of}
-use Rattle.vcd_decode.specs.inside.LineEdges.{lines_of, line_edge}
-use Rattle.vcd_decode.proofs.shared.EdgeTicks.{over_edges}
+use Rattle.vcd_decode.specs.LineEdges.{lines_of, line_edge}
+use Rattle.vcd_decode.proofs.shared.EdgeTicks.{bit_edges_are, over_edges}
 use Rattle.vcd_remarks.specs.declared.findings.found_ticks.FoundTicks.{FoundTicks}
 use Rattle.vcd_remarks.specs.FoundTicks.{found_ticks, ticks_where}
 use Rattle.vcd_remarks.specs.inside.FoundTicks.{with_tick}
@@ -109,8 +109,9 @@ pub edges_as_ticks : (waves : List (Option WaveView)) (test : BitEdge → Bool) 
     → ((e : BitEdge) → e.at ≡ e.before → test e ≡ false) → (end : ℕ)
     → edge_ticks test (bit_edges_of waves end) ≡ ticks_where p end
 edges_as_ticks waves test p same fails end =
-    over_edges waves (λ e. if test e then e.tick ∷ [] else [])
-    (λ t none. ap (λ (b : Bool). if b then t ∷ [] else []) (fails (line_edge (lines_of waves) t) none)) end
+    over_edges (lines_of waves) end (bit_edges_of waves end) (bit_edges_are waves end)
+    (λ e. if test e then e.tick ∷ [] else [])
+    (λ t none. ap (λ (b : Bool). if b then t ∷ [] else []) (fails (line_edge (lines_of waves) t) none))
     ∙ same_ticks _ _ (range_with_len 0 (suc end)) (λ t. ap (λ (b : Bool). if b then t ∷ [] else []) (same t))
     ∙ kept p (range_with_len 0 (suc end))
 

@@ -13,7 +13,7 @@ use Rattle.vcd_decode.specs.inside.PartialWord.{line_bit}
 use Rattle.vcd_decode.specs.inside.SpiParts.{samples_rising_edge}
 use Rattle.vcd_decode.specs.inside.SpiSetup.{samples_at}
 use Rattle.vcd_decode.specs.inside.SpiWords.{selects_chip}
-use Rattle.vcd_decode.specs.inside.LineEdges.{lines_of, line_edge}
+use Rattle.vcd_decode.specs.LineEdges.{lines_of, line_edge}
 use Rattle.vcd_decode.proofs.shared.EdgeByEdge.{never_sampled}
 use Rattle.vcd_remarks.specs.FoundTicks.{ticks_where}
 use Rattle.vcd_remarks.specs.SpiSelection.{has_edge_at_change, has_edge_inside, has_edge_outside}

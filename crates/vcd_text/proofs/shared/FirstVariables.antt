@@ -1,7 +1,7 @@
 -- The first of some variables with a code.
-use Rattle.std.proofs.Common.{◌≡◌, ℕ, zero, suc, ◌≤◌, true, List, [], ◌∷◌, Some, refl, sym, ap, ◌∙◌}
+use Rattle.std.proofs.Common.{◌≡◌, ℕ, zero, suc, ◌≤◌, Bool, true, List, [], ◌∷◌, Some, refl, sym, ap, ◌∙◌}
 use Rattle.std.proofs.Common.{inl, inr, arith, bytes_eq}
-use Rattle.std.specs.Prelude.{slice_get}
+use Rattle.std.specs.Prelude.{slice_get, find, filter}
 use Rattle.std.proofs.lemmas.Bool.{cases_Bool}
 use Rattle.std.proofs.lemmas.Option.{same_Some}
 use Rattle.std.proofs.lemmas.Slice.Eq.{bytes_eq-Decides}
@@ -45,4 +45,21 @@ first_found code (e ∷ ds) (suc p) d at same =
             at_first = rw other later.at_first;
             own_code = later.own_code;
           }
+    ]
+
+-- the first variable of a code, if a test takes it, is the first one with the code of those that it takes
+pub first_taken : (takes : VariableDeclaration → Bool) (code : List ℕ) (ds : List VariableDeclaration)
+    (e : VariableDeclaration) → find (λ (d : VariableDeclaration). bytes_eq code d.code) ds ≡ Some e → takes e ≡ true
+    → slice_get (filter takes ds) (first_with code (filter takes ds)) ≡ Some e
+unfolding first_with
+first_taken takes code [] e found is = absurd (cc found)
+first_taken takes code (d ∷ ds) e found is =
+    elim (cases_Bool (bytes_eq code d.code)) [
+      | inl here ↦
+          let one : d ≡ e = same_Some d e (rw here at found) in
+          rw (ap takes one ∙ is) (rw here (ap (λ (x : VariableDeclaration). Some x) one))
+      | inr apart ↦ elim (cases_Bool (takes d)) [
+        | inl some ↦ rw some (rw apart (first_taken takes code ds e (rw apart at found) is))
+        | inr none ↦ rw none (first_taken takes code ds e (rw apart at found) is)
+      ]
     ]

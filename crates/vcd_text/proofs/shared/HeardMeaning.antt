@@ -1,13 +1,13 @@
 -- What is heard of a file gives its signals their values, comes in the order of ticks, and fits its variables.
-use Rattle.std.proofs.Common.{◌≡◌, ℕ, ◌≤◌, Bool, true, false, ◌&&◌, ◌||◌, ◌==◌, List, [], ◌∷◌, ◌++◌}
+use Rattle.std.proofs.Common.{◌≡◌, ℕ, ◌<◌, ◌≤◌, Bool, true, false, ◌&&◌, ◌||◌, ◌==◌, List, [], ◌∷◌, ◌++◌}
 use Rattle.std.proofs.Common.{length, map, refl, sym, ap, subst, ◌∙◌, arith, append_assoc, Option, Some, None}
-use Rattle.std.proofs.Common.{nat_le, All, inl, inr, bytes_eq, eq-eqb}
-use Rattle.std.specs.Prelude.{slice_get, find, IsTrue, IsFalse, nat_lt}
+use Rattle.std.proofs.Common.{if◌then◌else◌, nat_le, All, inl, inr, bytes_eq, eq-eqb}
+use Rattle.std.specs.Prelude.{slice_get, find, IsTrue, IsFalse, nat_lt, not}
 use Rattle.std.proofs.lemmas.Bool.{cases_Bool, and_parts, or_parts, or_cases, both_ways, le-leb, leb-true}
 use Rattle.std.proofs.lemmas.Bool.{eqb-false, ne_eqb, not-true}
 use Rattle.std.proofs.lemmas.List.{append-nil, map-append}
 use Rattle.std.proofs.lemmas.List.Elements.{All-append, All-nil, All-from_recursion, filter-append}
-use Rattle.std.proofs.lemmas.Option.{same_Some}
+use Rattle.std.proofs.lemmas.Option.{same_Some, slice_get_within}
 use Rattle.std.proofs.lemmas.Slice.Eq.{bytes_eq-Decides}
 use Rattle.vcd_core.specs.declared.capture.TheConstants.{END_LIMIT}
 use Rattle.vcd_core.specs.declared.value.TheConstants.{WIDTH_LIMIT}
@@ -24,13 +24,13 @@ use Rattle.vcd_text.specs.Grammar.{VariableDeclaration, ValueChange, ParseState,
 use Rattle.vcd_text.specs.Grammar.{kept_variables, variable_of, value_changes_after, digit_tests, state_after_item}
 use Rattle.vcd_text.specs.Grammar.{state_after, initial_state}
 use Rattle.vcd_text.specs.HeardChanges.{HeardChange, first_with, heard_value, heard_of, heard_all, AreHeard}
-use Rattle.vcd_text.specs.HeardChanges.{heard_changes, is_of_kept}
+use Rattle.vcd_text.specs.HeardChanges.{heard_changes, is_of_kept, heard_word, skipped_variables}
 use Rattle.vcd_text.specs.HeardLaws.{TicksRise, FitsTarget}
 use Rattle.vcd_text.specs.inside.reading.DigitTests.{is_binary_number}
 use Rattle.vcd_text.specs.declared.reading.heard_changes.ChangeTarget.TheVariants as targets
 use Rattle.vcd_text.specs.declared.fault.Fault.TheVariants.{BadChange, ValueTooLong, BadTime, TimeBackwards}
 use Rattle.vcd_text.proofs.reading.change_listener.HeardItems.{none_of_declarations}
-use Rattle.vcd_text.proofs.shared.FirstVariables.{first_found}
+use Rattle.vcd_text.proofs.shared.FirstVariables.{first_found, first_taken}
 use Rattle.vcd_text.proofs.shared.ItemTests.{passed}
 
 -- ---- among the changes
@@ -77,10 +77,16 @@ value_rises : (s : ParseState) (code digits : List ℕ) (o : Option VariableDecl
     (rest : List HeardChange) → TicksRise s.tick to (ticks_of rest)
     → TicksRise s.tick to (ticks_of (heard_value s code digits o ++ rest))
 value_rises s code digits None to rest rise = rise
-value_rises s code digits (Some d) to rest rise =
+value_rises s code digits (Some d) to rest rise = (omega arith, rise)
+
+word_rises : (s : ParseState) (code word : List ℕ) (o : Option VariableDeclaration) (to : ℕ)
+    (rest : List HeardChange) → TicksRise s.tick to (ticks_of rest)
+    → TicksRise s.tick to (ticks_of (heard_word s code word o ++ rest))
+word_rises s code word None to rest rise = rise
+word_rises s code word (Some d) to rest rise =
     elim (cases_Bool (is_skipped d)) [
-      | inl skips ↦ rw skips rise
-      | inr keeps ↦ rw keeps (omega arith, rise)
+      | inl skips ↦ rw skips (omega arith, rise)
+      | inr keeps ↦ rw keeps rise
     ]
 
 item_rises : (s : ParseState) (i : Item) (to : ℕ) (rest : List HeardChange) → Allows s i
@@ -101,7 +107,8 @@ item_rises s (scope kind words) to rest allowed rise = rise
 item_rises s upscope to rest allowed rise = rise
 item_rises s (variable words) to rest allowed rise = rise
 item_rises s end_definitions to rest allowed rise = rise
-item_rises s (real_or_string first text code) to rest allowed rise = rise
+item_rises s (real_or_string first text code) to rest allowed rise =
+    word_rises s code (first ∷ text) (variable_of s code) to rest rise
 item_rises s (dump_word word) to rest allowed rise = rise
 item_rises s (other word words) to rest allowed rise = rise
 
@@ -123,19 +130,7 @@ heard_rise from to heard are = rw are.heard_is (rw are.state_is at (items_rise f
 kept_first : (code : List ℕ) (ds : List VariableDeclaration) (e : VariableDeclaration)
     → find (λ (d : VariableDeclaration). bytes_eq code d.code) ds ≡ Some e → is_skipped e ≡ false
     → slice_get (kept_variables ds) (first_with code (kept_variables ds)) ≡ Some e
-unfolding first_with
-kept_first code [] e found keeps = absurd (cc found)
-kept_first code (d ∷ ds) e found keeps =
-    elim (cases_Bool (bytes_eq code d.code)) [
-      | inl here ↦
-          let one : d ≡ e = same_Some d e (rw here at found) in
-          let kept = ap is_skipped one ∙ keeps in
-          rw kept (rw here (ap (λ (x : VariableDeclaration). Some x) one))
-      | inr apart ↦ elim (cases_Bool (is_skipped d)) [
-        | inl skips ↦ rw skips (kept_first code ds e (rw apart at found) keeps)
-        | inr kept ↦ rw kept (rw apart (kept_first code ds e (rw apart at found) keeps))
-      ]
-    ]
+kept_first code ds e found keeps = first_taken (λ d. not (is_skipped d)) code ds e found (ap not keeps)
 
 found_code : (code : List ℕ) (ds : List VariableDeclaration) (e : VariableDeclaration)
     → find (λ (d : VariableDeclaration). bytes_eq code d.code) ds ≡ Some e → e.code ≡ code
@@ -187,6 +182,15 @@ module _ (size : ℕ) (code : List ℕ) (s : ParseState) (k : ℕ) (d : Variable
             ]
       ]
 
+  no_value_heard : (key word : List ℕ) (o : Option VariableDeclaration)
+      → heard_changes size (first_with code (kept_variables s.declared)) (heard_word s key word o) ≡ []
+  no_value_heard key word None = refl
+  no_value_heard key word (Some e) =
+      elim (cases_Bool (is_skipped e)) [
+        | inl skips ↦ rw skips refl
+        | inr keeps ↦ rw keeps refl
+      ]
+
   changes_append : (vs ws : List ValueChange)
       → changes_of_code size code (vs ++ ws) ≡ changes_of_code size code vs ++ changes_of_code size code ws
   unfolding changes_of_code
@@ -211,7 +215,9 @@ module _ (size : ℕ) (code : List ℕ) (s : ParseState) (k : ℕ) (d : Variable
   item_gives (variable words) = sym (append-nil _)
   item_gives end_definitions = sym (append-nil _)
   item_gives (stamp digits) = sym (append-nil _)
-  item_gives (real_or_string first text c) = sym (append-nil _)
+  item_gives (real_or_string first text c) =
+      sym (ap (λ cs. changes_of_code size code s.value_changes ++ cs)
+      (no_value_heard c (first ∷ text) (variable_of s c)) ∙ append-nil _)
   item_gives (dump_word word) = sym (append-nil _)
   item_gives (other word words) = sym (append-nil _)
 
@@ -296,22 +302,37 @@ unless_skipped x y keeps either =
 abbrev Fits : List VariableDeclaration → HeardChange → Type 0
 Fits declared h = FitsTarget declared h.target h.text
 
+skipped_within : (s : ParseState) (code : List ℕ) (d : VariableDeclaration) → variable_of s code ≡ Some d
+    → is_skipped d ≡ true → first_with code (skipped_variables s.declared) < length (skipped_variables s.declared)
+skipped_within s code d is skips =
+    slice_get_within (skipped_variables s.declared) _ d (first_taken is_skipped code s.declared d is skips)
+
 value_fits : (s : ParseState) (code digits : List ℕ) (o : Option VariableDeclaration) → variable_of s code ≡ o
     → ((d : VariableDeclaration) → o ≡ Some d → is_skipped d ≡ false
     → (is_binary_number digits ≡ true) × (nat_le (length digits) d.size ≡ true))
     → All (Fits s.declared) (heard_value s code digits o)
 value_fits s code digits None is takes = All-nil _
 value_fits s code digits (Some d) is takes =
-    elim (cases_Bool (is_skipped d)) [
-      | inl skips ↦ rw skips (All-nil _)
-      | inr keeps ↦
-          let (number, short) = takes d refl keeps in
-          let p = first_with code (kept_variables s.declared) in
-          let h : HeardChange = record { tick = s.tick; target = targets.Kept p; text = digits } in
-          let fits : FitsTarget s.declared (targets.Kept p) digits =
-          rw (kept_first code s.declared d is keeps) (has_value d.size digits number short) in
-          rw keeps (All-from_recursion (Fits s.declared) (h ∷ []) (fits, tt))
-    ]
+    All-from_recursion (Fits s.declared) (heard_value s code digits (Some d)) (by_kind (is_skipped d) refl, tt)
+  where
+    by_kind : (skips : Bool) → is_skipped d ≡ skips
+        → FitsTarget s.declared (if skips then targets.Skipped (first_with code (skipped_variables s.declared))
+        else targets.Kept (first_with code (kept_variables s.declared))) digits
+    by_kind true skips = skipped_within s code d is skips
+    by_kind false keeps =
+        let (number, short) = takes d refl keeps in
+        rw (kept_first code s.declared d is keeps) (has_value d.size digits number short)
+
+word_fits : (s : ParseState) (code word : List ℕ) (o : Option VariableDeclaration) → variable_of s code ≡ o
+    → All (Fits s.declared) (heard_word s code word o)
+word_fits s code word None is = All-nil _
+word_fits s code word (Some d) is = by_kind (is_skipped d) refl
+  where
+    by_kind : (skips : Bool) → is_skipped d ≡ skips
+        → All (Fits s.declared) (if skips then heard_value s code word (Some d) else [])
+    by_kind true skips = value_fits s code word (Some d) is (λ e same keeps.
+        absurd (both_ways _ keeps (ap is_skipped (same_Some e d (sym same)) ∙ skips)))
+    by_kind false keeps = All-nil _
 
 one_digit : (digit : ℕ) → is_binary_digit digit ≡ true → (d : VariableDeclaration) → is_skipped d ≡ false
     → (is_binary_number (digit ∷ []) ≡ true) × (nat_le (length (digit ∷ [])) d.size ≡ true)
@@ -351,7 +372,8 @@ item_fits s upscope allowed = All-nil _
 item_fits s (variable words) allowed = All-nil _
 item_fits s end_definitions allowed = All-nil _
 item_fits s (stamp digits) allowed = All-nil _
-item_fits s (real_or_string first text code) allowed = All-nil _
+item_fits s (real_or_string first text code) allowed =
+    word_fits s code (first ∷ text) (variable_of s code) refl
 item_fits s (dump_word word) allowed = All-nil _
 item_fits s (other word words) allowed = All-nil _
 

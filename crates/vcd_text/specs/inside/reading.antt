@@ -18,3 +18,4 @@ pub mod HeardChanges
 pub mod DigitBlocks
 pub mod BinaryNumber
 pub mod Timescale
+pub mod SkippedVariables

@@ -6,7 +6,7 @@ ghost use Rattle.std.specs.Io.KnownBytes.{IsAtEnd};
 ghost use Rattle.vcd_core.specs.declared.capture.TheConstants.{SIGNAL_LIMIT};
 ghost use Rattle.vcd_text.specs.Grammar.{ParseState, VariableDeclaration, initial_state};
 ghost use Rattle.vcd_text.specs.Grammar.{is_skipped, kept_variables};
-ghost use Rattle.vcd_text.specs.HeardChanges.{HeardChange, first_with};
+ghost use Rattle.vcd_text.specs.HeardChanges.{HeardChange, first_with, skipped_variables};
 ghost use Rattle.vcd_text.specs.Refusals.{IsRefusal};
 ghost use Rattle.vcd_text.specs.declared.fault.Fault.{Fault};
 ghost use Rattle.vcd_text.specs.declared.reading.TheConstants.{LONG_FILE_LIMIT};
@@ -14,6 +14,7 @@ ghost use Rattle.vcd_text.specs.inside.reading.DeclaredSignals.{declared_content
 ghost use Rattle.vcd_text.specs.inside.reading.Part.{undriven};
 ghost use Rattle.vcd_text.specs.inside.reading.ChangeStream.{HasStreamed, IsStreamAt, StreamsOn};
 ghost use Rattle.vcd_text.specs.inside.reading.ChangeStream.{bytes_to_come, heard_by};
+ghost use Rattle.vcd_text.specs.inside.reading.SkippedVariables.{listed_variables};
 
 use crate::fault::ReadError;
 use crate::reading::LONG_FILE_LIMIT;
@@ -21,6 +22,7 @@ use crate::reading::change_listener::ChangeListener;
 use crate::reading::declared_signals::Declarations;
 use crate::reading::file_reader::FileReader;
 use crate::reading::heard_changes::HeardChanges;
+use crate::reading::skipped_variables::SkippedVariable;
 use std::alloc::Global;
 use std::mem::replace;
 use vcd_core::{SIGNAL_LIMIT, Source, Timescale};
@@ -28,11 +30,11 @@ use vcd_core::{SIGNAL_LIMIT, Source, Timescale};
 /// A file that is read a chunk at a time, and the changes that the words of the last chunk made.
 ///
 /// The grammar, the first fault and its line are those of `read`. A file has at most
-/// `LONG_FILE_LIMIT` bytes, and at most `SIGNAL_LIMIT` kept variables. Changes of skipped variables
-/// are checked, and not heard.
+/// `LONG_FILE_LIMIT` bytes, and at most `SIGNAL_LIMIT` kept variables.
 ///
 /// Memory: a chunk of at most 4,096 bytes, the longest word, the changes of one chunk, and what
-/// `read_part` holds of the declarations.
+/// `read_part` holds of the declarations. Each skipped variable takes its kind, its full name and
+/// some sixty bytes, and its code as much again as `read` takes for it.
 #[derive(Drop)]
 pub struct ChangeStream {
     reader: FileReader,
@@ -122,6 +124,14 @@ impl ChangeStream {
         ensures { (state : ParseState) → IsStreamAt self.now state → result ≡ state.timescale }
     {
         self.reader.parser.timescale
+    }
+
+    /// The skipped variables so far.
+    pub fn skipped_variables(&self) -> &[SkippedVariable]
+        ensures { (state : ParseState) → IsStreamAt self.now state
+            → result.now ≡ listed_variables (skipped_variables state.declared) }
+    {
+        self.listener.skipped.list.as_slice()
     }
 
     /// The kept variables so far, as they are declared.

@@ -1,6 +1,6 @@
 //! The changes of a file as they are heard, in a list whose texts lie in one buffer.
 
-ghost use Rattle.std.specs.Prelude.{◌≡◌, ◌<◌, ◌++◌, ◌∷◌, [], Some, length, slice_get, OnOk};
+ghost use Rattle.std.specs.Prelude.{◌≡◌, ◌<◌, ◌≤◌, ◌++◌, ◌∷◌, [], Some, length, slice_get, OnOk};
 ghost use Rattle.vcd_text.specs.LentChanges.{heard_contents};
 
 use std::alloc::Global;
@@ -12,7 +12,7 @@ use vcd_core::NoMemory;
 pub enum ChangeTarget {
     /// The one at this position among the kept variables of the file: that of its signal.
     Kept(usize),
-    /// The one at this position among the skipped variables. A `ChangeStream` hears none of these.
+    /// The one at this position among the skipped variables.
     Skipped(usize),
 }
 
@@ -22,7 +22,8 @@ pub enum ChangeTarget {
 pub struct HeardChange<'a> {
     pub tick: u64,
     pub target: ChangeTarget,
-    /// Of a kept variable the binary digits of the value, of a skipped one the word of the value.
+    /// Of a kept variable the binary digits of the value. Of a skipped one these, or the word of a
+    /// real number or a string, with its letter.
     pub text: &'a [u8],
 }
 
@@ -102,7 +103,7 @@ impl HeardChanges {
             ++ record { tick = tick; target = target; text = text.now } ∷ []) }
     {
         let start = self.text.len();
-        self.text.extend_from_slice(text)?;
+        append_text(&mut self.text, text)?;
         let end = self.text.len();
         self.places.push(PlacedChange {
             tick,
@@ -112,4 +113,18 @@ impl HeardChanges {
         })?;
         Ok(())
     }
+}
+
+/// Appends a text. Most are a digit, which takes no call to copy.
+#[inline(always)]
+fn append_text(buffer: &mut Vec<u8>, text: &[u8]) -> Result<(), NoMemory>
+    ensures text { OnOk result (buffer.new.items ≡ buffer.old.items ++ text.now) }
+    ensures kept { length buffer.old.items ≤ length buffer.new.items }
+{
+    if let [digit] = text {
+        buffer.push(*digit)?;
+        return Ok(());
+    }
+    buffer.extend_from_slice(text)?;
+    Ok(())
 }

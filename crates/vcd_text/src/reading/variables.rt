@@ -19,6 +19,7 @@ use crate::reading::log::{ExpectedRoom, LoggedChange};
 use crate::reading::scopes::{ScopePlace, Scopes};
 pub use assigning::CodeChange;
 pub use choosing::{remaining_signals, silent_variables};
+pub use declaring::is_skipped;
 use std::alloc::Global;
 use std::mem::replace;
 use vcd_core::{NameWords, NoMemory, Wave, Word};

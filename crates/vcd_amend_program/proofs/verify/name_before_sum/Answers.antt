@@ -1,6 +1,6 @@
 -- The line ends with the sum.
 use Rattle.std.proofs.Common.{◌≡◌, string_bytes, rules}
-use Rattle.vcd_amend_program.specs.FoundMarks.{sum_text}
+use Rattle.vcd_amend_program.specs.inside.Comparisons.{sum_text}
 use Rattle.vcd_amend_program.proofs.verify.AskedByMarks.{ends_so}
 use Rattle.vcd_amend_program.proofs.verify.name_before_sum.Goals as goal
 

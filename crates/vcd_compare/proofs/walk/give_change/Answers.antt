@@ -27,6 +27,8 @@ returns-in-Kept c h rest at =
           → ArePairsAfter c.args.pairs.now.bounds c.args.which v c.args.tick
           (heard_contents c.get-change.result).text c.args.pairs.now.all.items c.change.new.self.all.items)
           (same variable kept) (c.change.ensures.changed count others listed) below);
+      passed = λ position skips. absurd (kept_or_skipped c.in-Kept.variable position
+          (sym c.in-Kept.is ∙ ap (λ (g : HeardChange). g.target) is ∙ skips));
     }
 
 pub returns-in-Skipped : goal.returns-in-Skipped
@@ -39,4 +41,5 @@ returns-in-Skipped c h rest at =
       listed = λ variable count others kept listed below. listed;
       changed = λ variable count others kept listed below.
           absurd (kept_or_skipped _ _ (sym kept ∙ sym (ap (λ (g : HeardChange). g.target) is) ∙ c.in-Skipped.is));
+      passed = λ position skips. refl;
     }

@@ -1,6 +1,8 @@
 -- The pieces are appended one by one.
 use Rattle.std.proofs.Common.{codes, ◌∙◌, ◌++◌, ap, List, ℕ}
 use Rattle.std.proofs.lemmas.Result.{on_ok_weaker}
+use Rattle.vcd_core.specs.declared.bit.Bit.{Bit}
+use Rattle.vcd_compare.specs.declared.differences.Differences.{Differences}
 use Rattle.vcd_compare_program.specs.JsonText.{signal_begin, differences_json}
 use Rattle.vcd_compare_program.specs.ReportLines.{signal_in}
 use Rattle.vcd_compare_program.specs.inside.Facts.{facts_of}
@@ -13,4 +15,5 @@ returns c =
     on_ok_weaker c.append_bytes.result (three c.args.text.now.items (signal_begin (codes "values") name)
     (differences_json c.args.pair.now.differences) (codes "}") _ _ _ (c.in_ok-append_signal.ensures
     ∙ ap (λ (n : List ℕ). c.args.text.now.items ++ signal_begin (codes "values") n) c.name.ensures)
-    c.in_ok-append_differences.ensures) c.append_bytes.ensures
+    (c.in_ok-append_differences.ensures ∙ ap (λ (ds : Differences (List Bit)). c.append_signal.new.text.items
+    ++ differences_json ds) c.widened.ensures)) c.append_bytes.ensures

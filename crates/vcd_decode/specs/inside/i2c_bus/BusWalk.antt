@@ -1,6 +1,6 @@
 -- The walk over the events of an I2C bus: the state between two events, and the annotations of one.
-use Rattle.std.specs.Prelude.{◌≡◌, ℕ, ◌+◌, ◌^◌, ◌<◌, ◌≤◌, ◌==◌, nat_le, if◌then◌else◌, Option, Some}
-use Rattle.std.specs.Prelude.{None, IfSome, List, [], ◌∷◌, ◌++◌, fold, filter_map}
+use Rattle.std.specs.Prelude.{ℕ, ◌+◌, ◌^◌, ◌<◌, ◌≤◌, ◌==◌, nat_le, if◌then◌else◌, Option, Some}
+use Rattle.std.specs.Prelude.{None, IfSome, unwrap_or, List, [], ◌∷◌, ◌++◌, fold, filter_map}
 use Rattle.std.specs.Option.{option_or}
 use Rattle.vcd_core.specs.declared.bit.Bit.{Bit}
 use Rattle.vcd_core.specs.declared.bit.Bit.TheVariants.{X}
@@ -16,6 +16,7 @@ use Rattle.vcd_decode.specs.declared.i2c_bus.bytes.ByteRole.TheVariants as roles
 use Rattle.vcd_decode.specs.declared.i2c_bus.bytes.PartialByte.{PartialByte}
 use Rattle.vcd_decode.specs.declared.i2c_bus.transfer.Transfer.{Transfer}
 use Rattle.vcd_decode.specs.Lines.{annotation}
+use Rattle.vcd_decode.specs.inside.PartialWord.{line_bit}
 use Rattle.vcd_decode.specs.inside.i2c_bus.Events.{bus_event}
 use Rattle.vcd_decode.specs.BusBytes.{number_with, byte_kind, role_after, acknowledge_kind}
 use Rattle.vcd_decode.specs.BusBytes.{ten_bit_address}
@@ -122,18 +123,12 @@ walk_annotations bus (e ∷ es) = event_annotations bus e ++ walk_annotations (b
 
 -- ---- edges
 
--- the levels of the first two lines of an edge
+-- the levels of the first two lines of an edge, x if one is absent
 abbrev pub levels_of : List (Option Bit) → BusLevels
-levels_of (Some scl ∷ Some sda ∷ others) = record { scl = scl; sda = sda }
-levels_of others = record { scl = X; sda = X }
-
--- both lines of a bus have a bit
-abbrev pub HasBothLines : List (Option Bit) → Type 0
-HasBothLines bits = (scl sda : Bit) × (bits ≡ Some scl ∷ Some sda ∷ None ∷ None ∷ [])
-
--- both have one just before an edge and at it
-abbrev pub IsBusEdge : BitEdge → Type 0
-IsBusEdge e = HasBothLines e.before × HasBothLines e.at
+levels_of bits = record {
+  scl = unwrap_or (line_bit bits 0) X;
+  sda = unwrap_or (line_bit bits 1) X;
+}
 
 -- the event at an edge
 abbrev pub edge_event : BitEdge → Option BusEvent
@@ -142,3 +137,7 @@ edge_event e = bus_event e.tick (levels_of e.before) (levels_of e.at)
 -- the events at edges
 abbrev pub edge_events : List BitEdge → List BusEvent
 edge_events edges = filter_map edge_event edges
+
+-- the annotations that a decoder in this state has left to give for the edges to come
+abbrev pub i2c_annotations_left : Option Transfer → List BitEdge → List Annotation
+i2c_annotations_left bus edges = walk_annotations bus (edge_events edges)

@@ -1,6 +1,6 @@
-use Rattle.std.proofs.Common.{suc, List, ◌∷◌, length, All, ap, sym, subst, ◌∙◌, arith}
+use Rattle.std.proofs.Common.{List, length, ap, sym, subst, ◌∙◌, arith}
 use Rattle.vcd_decode.specs.declared.i2c_bus.events.BusEvent.{BusEvent}
-use Rattle.vcd_decode.specs.inside.i2c_bus.BusWalk.{edge_events, IsBusEdge}
+use Rattle.vcd_decode.specs.inside.i2c_bus.BusWalk.{edge_events}
 use Rattle.vcd_remarks.specs.declared.bus_findings.BusWalk.{BusWalk}
 use Rattle.vcd_remarks.specs.inside.BusFindings.{no_events, with_events, HasRoom}
 use Rattle.vcd_remarks.proofs.bus_findings.EventsWalked.{room_left, room_for_one, walked_one, one_event, no_event}
@@ -11,21 +11,14 @@ loop-edge-init c =
     let gives = c.into_iter-edge-iterator.ensures.into_iter_gives in
     let few = ap (λ es. length (edge_events es)) gives in
     let room : HasRoom no_events (length (edge_events c.into_iter-edge-iterator.result)) = record {
-      bits = omega (arith, c.requires.few, few);
-      cuts = omega (arith, c.requires.few, few);
-      stray = omega (arith, c.requires.few, few);
+      bits = omega (arith, c.requires, few);
+      cuts = omega (arith, c.requires, few);
+      stray = omega (arith, c.requires, few);
     } in record {
       found = λ i. with_events (c.none-found.ensures i) (edge_events (gives i));
       room = subst (λ (w : BusWalk). HasRoom w (length (edge_events c.into_iter-edge-iterator.result)))
           (sym c.none-found.ensures) room;
-      lines = subst (All IsBusEdge) (sym gives) c.requires.lines;
     }
-
-pub edge_event-requires : goal.edge_event-requires
-edge_event-requires c =
-    let all : All IsBusEdge (c.in-Some.edge ∷ c.next.new.self) =
-    subst (All IsBusEdge) c.in-Some.ensures.steps c.loop-edge.invariant.lines in
-    all 0 c.in-Some.edge (omega arith)
 
 pub with_event-found-requires : goal.with_event-found-requires
 with_event-found-requires c =
@@ -35,8 +28,6 @@ with_event-found-requires c =
 
 pub loop-edge-preserved-in-Some-edge_event : goal.loop-edge-preserved-in-Some-edge_event
 loop-edge-preserved-in-Some-edge_event c =
-    let all : All IsBusEdge (c.in-Some.edge ∷ c.next.new.self) =
-    subst (All IsBusEdge) c.in-Some.ensures.steps c.loop-edge.invariant.lines in
     let e = c.in-Some-edge_event.event in
     let rest = edge_events c.next.new.self in
     let events = one_event c.loop-edge.edge-iterator c.next.new.self c.in-Some.edge c.edge_event.result
@@ -47,19 +38,15 @@ loop-edge-preserved-in-Some-edge_event c =
       room = subst (λ (w : BusWalk). HasRoom w (length rest)) (sym c.with_event-found.ensures)
           (room_left c.loop-edge.found e (length rest) (subst (HasRoom c.loop-edge.found)
           (ap (λ (es : List BusEvent). length es) events) c.loop-edge.invariant.room));
-      lines = λ k d less. all (suc k) d (omega (arith, less));
     }
 
 pub loop-edge-preserved : goal.loop-edge-preserved
 loop-edge-preserved c =
-    let all : All IsBusEdge (c.in-Some.edge ∷ c.next.new.self) =
-    subst (All IsBusEdge) c.in-Some.ensures.steps c.loop-edge.invariant.lines in
     let events = no_event c.loop-edge.edge-iterator c.next.new.self c.in-Some.edge c.edge_event.result
     c.in-Some.ensures.steps c.edge_event.ensures c.in_default.is in record {
       found = ap (with_events c.loop-edge.found) (sym events) ∙ c.loop-edge.invariant.found;
       room = subst (HasRoom c.loop-edge.found) (ap (λ (es : List BusEvent). length es) events)
           c.loop-edge.invariant.room;
-      lines = λ k d less. all (suc k) d (omega (arith, less));
     }
 
 pub returns : goal.returns

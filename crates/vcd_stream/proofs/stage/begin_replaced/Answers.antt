@@ -8,4 +8,4 @@ pub returns-then-ticks : goal.returns-then-ticks
 returns-then-ticks g c =
     let letters = g.V.Letters.letters c.args.last.width in
     λ more. ap (λ l. all_seen letters c.args.out.now.items ++ without_repeats (letters c.args.last.value) l)
-    (sym (begun_none c.args.replaced.ticks (letters c.args.replaced.value) more (omega arith)))
+    (sym (begun_none c.args.replacement.ticks (letters c.args.replacement.value) more (omega arith)))

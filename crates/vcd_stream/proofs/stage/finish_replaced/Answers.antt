@@ -7,5 +7,6 @@ pub returns : goal.returns
 unfolding replaced_changes
 returns g c = on_ok_weaker c.finish_hidden.result
     (λ told. told
-    ∙ c.in_ok-value.ensures (shown_changes c.args.replaced.ticks (g.V.Letters.letters c.args.last.width c.args.now) []))
+    ∙ c.in_ok-value.ensures
+    (shown_changes c.args.replacement.ticks (g.V.Letters.letters c.args.last.width c.args.now) []))
     c.finish_hidden.ensures

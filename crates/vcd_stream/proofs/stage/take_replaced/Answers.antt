@@ -10,7 +10,7 @@ pub returns-then-change-ticks : goal.returns-then-change-ticks
 unfolding made_changes
 returns-then-change-ticks g c =
     let letters = g.V.Letters.letters c.args.last.width in
-    let r = c.args.replaced in
+    let r = c.args.replacement in
     one_given letters _ _ c.args.change _ _ _ c.in_ok-last.ensures
     (λ more. replaced_to_come r.ticks (letters r.value) (letters c.args.now) (seen letters c.args.change) more
     c.if-change-ticks.true)
@@ -19,7 +19,7 @@ pub returns : goal.returns
 unfolding given made_changes
 returns g c =
     let letters = g.V.Letters.letters c.args.last.width in
-    let r = c.args.replaced in
+    let r = c.args.replacement in
     given_first letters c.args.out.now.items
     (record { work = works.Replace r.ticks r.value c.args.now; last = c.args.last.value }) c.args.change _ _ _
     (record { work = works.Hide r.ticks c.args.now; last = c.in_ok-value.value })

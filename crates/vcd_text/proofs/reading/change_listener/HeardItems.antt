@@ -11,7 +11,7 @@ use Rattle.vcd_text.specs.Items.{Item, entry, timescale, scope, upscope, variabl
 use Rattle.vcd_text.specs.Items.{vector, real_or_string, dump_word, other, spelling, dump_words, is_command}
 use Rattle.vcd_text.specs.Items.{header_word, end_word}
 use Rattle.vcd_text.specs.Grammar.{ParseState, fits, state_after_item, variable_of, word_texts}
-use Rattle.vcd_text.specs.HeardChanges.{heard_of, heard_value}
+use Rattle.vcd_text.specs.HeardChanges.{heard_of, heard_value, heard_word}
 use Rattle.vcd_text.specs.inside.reading.ChangeListener.{awaits_code, heard_at_end}
 use Rattle.vcd_text.specs.inside.reading.DigitTests.{vector_prefixes, real_or_string_prefixes}
 use Rattle.vcd_text.specs.inside.reading.Part.{Asked}
@@ -82,7 +82,7 @@ one_word c (other word words) first text fit spelled =
 pub none_of_declarations : (c : ParseState) (i : Item) → IsTrue (fits c i) → IsFalse c.in_body → heard_of c i ≡ []
 none_of_declarations c (scalar digit code) fit early = absurd (both_ways _ early (and_parts _ _ fit).0)
 none_of_declarations c (vector first digits code) fit early = absurd (both_ways _ early (and_parts _ _ fit).0)
-none_of_declarations c (real_or_string first text code) fit early = refl
+none_of_declarations c (real_or_string first text code) fit early = absurd (both_ways _ early (and_parts _ _ fit).0)
 none_of_declarations c (entry kind words) fit early = refl
 none_of_declarations c (timescale words) fit early = refl
 none_of_declarations c (scope kind words) fit early = refl
@@ -113,18 +113,24 @@ vector_ends c i letter digits first text in_body fit spelled among is =
 
 real_or_string_ends : (c : ParseState) (i : Item) (letter : ℕ) (value first text : List ℕ) → c.in_body ≡ true
     → IsTrue (fits c i) → spelling i ≡ (letter ∷ value) ∷ text ∷ [] → IsTrue (is_among real_or_string_prefixes letter)
-    → heard_of c i ≡ heard_at_end items.RealOrString (state_after_item c i) first text
-real_or_string_ends c i letter value first text in_body fit spelled among =
+    → letter ∷ value ≡ first → heard_of c i ≡ heard_at_end items.RealOrString (state_after_item c i) first text
+real_or_string_ends c i letter value first text in_body fit spelled among is =
     let same : i ≡ real_or_string letter value text =
     ended_item c i (real_or_string letter value text) ((letter ∷ value) ∷ text ∷ []) in_body fit spelled
     (by_among (λ b. change_with (b ∷ value) (text ∷ []) ≡ real_or_string b value text) real_or_string_prefixes letter
     among (refl, (refl, (refl, (refl, tt))))) in
-    subst (λ j. heard_of c j ≡ heard_at_end items.RealOrString (state_after_item c j) first text) (sym same) refl
+    subst (λ j. heard_of c j ≡ heard_at_end items.RealOrString (state_after_item c j) first text) (sym same)
+    (ap (λ word. heard_word c text word (variable_of c text)) is)
 
 -- no change begins as another command
 no_prefix : (first : ℕ) (word : List ℕ) → IsTrue (is_among vector_prefixes first) → is_command (first ∷ word) ≡ true → ⊥
 no_prefix first word among is =
     both_ways _ (by_among (λ b. is_command (b ∷ word) ≡ false) vector_prefixes first among (refl, (refl, tt))) is
+
+no_letter : (first : ℕ) (word : List ℕ) → IsTrue (is_among real_or_string_prefixes first)
+    → is_command (first ∷ word) ≡ true → ⊥
+no_letter first word among is = both_ways _ (by_among (λ b. is_command (b ∷ word) ≡ false) real_or_string_prefixes first
+    among (refl, (refl, (refl, (refl, tt))))) is
 
 none_of_other : (c : ParseState) (i : Item) (keyword word : List ℕ) (words : List (List ℕ)) → IsTrue (fits c i)
     → spelling i ≡ keyword ∷ (words ++ word ∷ []) → is_command keyword ≡ true → heard_of c i ≡ []
@@ -133,7 +139,9 @@ none_of_other c (scalar digit code) keyword word words fit spelled is =
 none_of_other c (vector first digits code) keyword word words fit spelled is =
     let same : first ∷ digits ≡ keyword = cc spelled in
     absurd (no_prefix first digits (and_parts _ _ fit).1 (ap is_command same ∙ is))
-none_of_other c (real_or_string first text code) keyword word words fit spelled is = refl
+none_of_other c (real_or_string first text code) keyword word words fit spelled is =
+    let same : first ∷ text ≡ keyword = cc spelled in
+    absurd (no_letter first text (and_parts _ _ fit).1 (ap is_command same ∙ is))
 none_of_other c (entry kind ws) keyword word words fit spelled is = refl
 none_of_other c (timescale ws) keyword word words fit spelled is = refl
 none_of_other c (scope kind ws) keyword word words fit spelled is = refl
@@ -171,8 +179,10 @@ module _ (asked : Asked) (m : Parser) (c : ParseState) (begun : List WordOnLine)
       vector_ends c i b.letter m.digits.items first text (change_in_body _ _ b) fit
       (spelled ∙ ap (λ ws. ws ++ text ∷ []) texts) b.among is
   end_is_heard items.RealOrString (value, b) kept =
+      let texts = change_texts real_or_string_prefixes value b in
+      let is : b.letter ∷ value ≡ first = let both = sym texts ∙ kept refl in cc both in
       real_or_string_ends c i b.letter value first text (change_in_body _ _ b) fit
-      (spelled ∙ ap (λ ws. ws ++ text ∷ []) (change_texts real_or_string_prefixes value b)) b.among
+      (spelled ∙ ap (λ ws. ws ++ text ∷ []) texts) b.among is
   end_is_heard items.Other is kept =
       none_of_other c i is.keyword text is.words fit (spelled ∙ ap (λ ws. ws ++ text ∷ []) is.spelled)
       (and_parts _ _ (and_parts _ _ (and_parts _ _ is.other).0).0).0

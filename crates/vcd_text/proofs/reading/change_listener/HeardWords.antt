@@ -15,10 +15,13 @@ use Rattle.vcd_text.specs.inside.reading.OpenItems.{is_nothing}
 use Rattle.vcd_text.specs.inside.reading.Part.{Asked}
 use Rattle.vcd_text.specs.inside.reading.Parser.{IsBegun, ParserMatches, WordStep, goes_on, ends_item}
 use Rattle.vcd_text.specs.inside.reading.ChangeListener.{awaits_code, heard_at_end, HasHeardWords}
+use Rattle.vcd_text.specs.inside.reading.SkippedVariables.{HasSkipped, HearsWord, KnowsSize}
 use Rattle.vcd_text.specs.declared.reading.change_listener.ChangeListener.{ChangeListener}
 use Rattle.vcd_text.specs.declared.reading.parser.OpenItem.{OpenItem}
 use Rattle.vcd_text.specs.declared.reading.parser.OpenItem.TheVariants as items
 use Rattle.vcd_text.specs.declared.reading.parser.Parser.{Parser}
+use Rattle.vcd_text.specs.declared.reading.skipped_variables.SkippedVariables.{SkippedVariables}
+use Rattle.vcd_text.proofs.reading.change_listener.HeardDeclarations.{listed_still, listed_then, size_known}
 use Rattle.vcd_text.proofs.reading.change_listener.HeardItems.{end_is_heard}
 use Rattle.vcd_text.proofs.shared.Chunks.{words_complete}
 use Rattle.vcd_text.proofs.shared.ItemsInTurn.{reaches_both, reaches_one}
@@ -73,6 +76,20 @@ closed_awaits_none items.Other is = refl
 closed_awaits_none items.Vector is = absurd (false≢true is)
 closed_awaits_none items.RealOrString is = absurd (false≢true is)
 
+pub closed_knows : (item : OpenItem) (begun : List (List ℕ)) (s : SkippedVariables) → is_nothing item ≡ true
+    → KnowsSize item begun s
+closed_knows items.Nothing begun s is = tt
+closed_knows (items.Entry kind) begun s is = tt
+closed_knows items.Timescale begun s is = tt
+closed_knows items.Scope begun s is = tt
+closed_knows items.Upscope begun s is = tt
+closed_knows items.Variable begun s is = tt
+closed_knows items.SizedVariable begun s is = absurd (false≢true is)
+closed_knows items.EndDefinitions begun s is = tt
+closed_knows items.Other begun s is = tt
+closed_knows items.Vector begun s is = tt
+closed_knows items.RealOrString begun s is = tt
+
 alone : {X : Type 0} (xs : List X) (x y : X) → xs ++ x ∷ [] ≡ y ∷ [] → xs ≡ []
 alone [] x y e = refl
 alone (z ∷ xs) x y e = absurd (omega (arith, ap length e, length-append (z ∷ xs) (x ∷ [])))
@@ -111,13 +128,16 @@ heard_one s i = append-nil (heard_of s i)
 pub word_heard : (limit : ℕ) (later : Asked) (start was now : ChangeListener) (old new : Parser)
     (words_so_far : List WordOnLine) (w : WordOnLine) (h : HasHeardWords limit start was old words_so_far)
     → WordStep later h.taken.state (h.taken.begun ++ w ∷ []) new
-    → ((s : ParseState) → ParserMatches later new s → now.heard ≡ was.heard
+    → HearsWord old.item old w.text was.skipped now.skipped
+    → ((s : ParseState) → ParserMatches later new s → HasSkipped now.skipped s.declared → now.heard ≡ was.heard
     ++ (if is_nothing new.item then heard_at_end old.item s was.first_word.items w.text else []))
     → (IsTrue (awaits_code new.item) → now.first_word.items ≡ w.text)
     → HasHeardWords limit start now new (words_so_far ++ w ∷ [])
-word_heard limit later start was now old new words_so_far w h (goes_on at) hears first =
+word_heard limit later start was now old new words_so_far w h (goes_on at) lists hears first =
     let r = h.taken in
-    let same : now.heard ≡ was.heard = hears r.state at.0
+    let skipped = listed_still h.asked old r.state r.begun w was.skipped now.skipped r.at.0 old.item r.at.1 h.size
+    lists later new at h.skipped in
+    let same : now.heard ≡ was.heard = hears r.state at.0 skipped
     ∙ ap (λ b. was.heard ++ (if b then heard_at_end old.item r.state was.first_word.items w.text else []))
     (still_open new r.begun w new.item at.1) ∙ append-nil was.heard in
     record {
@@ -136,14 +156,18 @@ word_heard limit later start was now old new words_so_far w h (goes_on at) hears
       heard = ap (λ hs. start.heard ++ hs) same ∙ h.heard;
       first = λ awaits. ap (λ ws. word_texts (ws ++ w ∷ [])) (only_word new r.begun w new.item at.1 awaits)
           ∙ ap (λ t. t ∷ []) (sym (first awaits));
+      skipped = skipped;
+      size = size_known old r.begun w was.skipped now.skipped old.item r.at.1 h.size lists new new.item at.1;
     }
-word_heard limit later start was now old new words_so_far w h (ends_item i spelled allows at) hears first =
+word_heard limit later start was now old new words_so_far w h (ends_item i spelled allows at) lists hears first =
     let r = h.taken in
     let ended = none_open new new.item at.1 in
     let next = state_after_item r.state i in
     let texts : spelling i ≡ word_texts r.begun ++ w.text ∷ [] =
     spelled ∙ map-append (λ (x : WordOnLine). x.text) r.begun (w ∷ []) in
-    let more : now.heard ≡ was.heard ++ heard_of r.state i = hears next at.0
+    let skipped = listed_then h.asked old r.state r.begun w was.skipped now.skipped r.at.0 i allows.0 texts old.item
+    r.at.1 h.size lists h.skipped in
+    let more : now.heard ≡ was.heard ++ heard_of r.state i = hears next at.0 skipped
     ∙ ap (λ b. was.heard ++ (if b then heard_at_end old.item next was.first_word.items w.text else [])) ended
     ∙ ap (λ hs. was.heard ++ hs) (sym (end_is_heard h.asked old r.state r.begun i was.first_word.items w.text r.at.0
     allows.0 texts old.item r.at.1 h.first)) in
@@ -168,6 +192,8 @@ word_heard limit later start was now old new words_so_far w h (ends_item i spell
           (ap (λ s. heard_of s i) (sym r.state_is) ∙ sym (heard_one (state_after (initial_state limit) r.items) i))
           ∙ sym (heard_both (initial_state limit) r.items (i ∷ []));
       first = λ awaits. absurd (false≢true (sym (closed_awaits_none new.item ended) ∙ awaits));
+      skipped = skipped;
+      size = closed_knows new.item [] now.skipped ended;
     }
 
 -- ---- a text more

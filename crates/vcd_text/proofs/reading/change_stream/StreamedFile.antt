@@ -1,6 +1,6 @@
 -- A file that is read change by change: what was heard of the first bytes, of a chunk more, and of the end.
 use Rattle.std.proofs.Common.{◌≡◌, ℕ, ◌≤◌, true, false, List, [], ◌∷◌, ◌++◌, length, Option, refl, sym, ap}
-use Rattle.std.proofs.Common.{◌∙◌, arith}
+use Rattle.std.proofs.Common.{◌∙◌, arith, subst}
 use Rattle.std.specs.Io.KnownBytes.{Consumes, IsAtEnd}
 use Rattle.std.proofs.lemmas.Bool.{and_parts, false≢true}
 use Rattle.std.proofs.lemmas.List.{append-nil, append_cancel_left}
@@ -17,10 +17,12 @@ use Rattle.vcd_text.specs.inside.reading.FileReader.{HasReadBytes}
 use Rattle.vcd_text.specs.inside.reading.OpenItems.{is_nothing}
 use Rattle.vcd_text.specs.inside.reading.Part.{unheard}
 use Rattle.vcd_text.specs.inside.reading.Parser.{is_complete}
+use Rattle.vcd_text.specs.inside.reading.SkippedVariables.{HasListed, HasSkipped}
 use Rattle.vcd_text.specs.declared.reading.TheConstants.{LONG_FILE_LIMIT}
 use Rattle.vcd_text.specs.declared.reading.change_listener.ChangeListener.{ChangeListener}
 use Rattle.vcd_text.specs.declared.reading.change_stream.ChangeStream.{ChangeStream}
 use Rattle.vcd_text.proofs.reading.change_listener.HeardWords.{heard_both, none_open, closed_awaits_none}
+use Rattle.vcd_text.proofs.reading.change_listener.HeardWords.{closed_knows}
 use Rattle.vcd_text.proofs.reading.change_stream.ItemsSoFar.{IsFront, items_go_on, none_left, no_items}
 use Rattle.vcd_text.proofs.reading.change_stream.ItemsSoFar.{before_is_complete}
 use Rattle.vcd_text.proofs.shared.Chunks.{of_all, consumes_none, no_bytes}
@@ -57,14 +59,16 @@ none_of_both [] ys e = (refl, sym e)
 none_of_both (x ∷ xs) ys e = absurd (omega (arith, ap length e))
 
 pub nothing_streamed : (coming : Option (List ℕ)) (s : ChangeStream)
-    → HasReadBytes SIGNAL_LIMIT LONG_FILE_LIMIT unheard s.reader []
+    → HasReadBytes SIGNAL_LIMIT LONG_FILE_LIMIT unheard s.reader [] → HasListed s.listener.skipped []
     → HasStreamed coming coming (initial_state SIGNAL_LIMIT) [] s
 unfolding complete_words words_of heard_all
-nothing_streamed coming s reads =
+nothing_streamed coming s reads listed =
     let r = reads.taken_words in
     let (whole, begun) = none_of_both r.whole r.begun r.parts in
     let none = no_items r.items (ap word_texts (sym whole) ∙ r.spelled) in
     let closed = none_open s.reader.parser s.reader.parser.item (rw begun at r.at.1) in
+    let state : r.state ≡ initial_state SIGNAL_LIMIT =
+    sym r.state_is ∙ ap (state_after (initial_state SIGNAL_LIMIT)) none in
     record {
       bytes = [];
       consumed = consumes_none coming;
@@ -74,27 +78,31 @@ nothing_streamed coming s reads =
       ends = (refl, let lines = reads.lines in omega (arith, lines));
       asked = unheard;
       taken = r;
-      state_is = sym r.state_is ∙ ap (state_after (initial_state SIGNAL_LIMIT)) none;
+      state_is = state;
       heard_is = ap (heard_all (initial_state SIGNAL_LIMIT)) (sym none);
       first = λ awaits. absurd (false≢true (sym (closed_awaits_none s.reader.parser.item closed) ∙ awaits));
+      skipped = subst (λ c. HasSkipped s.listener.skipped c.declared) (sym state) listed;
+      size = closed_knows s.reader.parser.item (word_texts r.begun) s.listener.skipped closed;
     }
 
 -- ---- the listener goes on
 
 -- the start of a listener that has heard this
 abbrev pub start_of : ChangeStream → List HeardChange → ChangeListener
-start_of s heard = record { heard = heard; first_word = s.listener.first_word }
+start_of s heard = record s.listener { heard = heard }
 
 -- with an empty list, it has heard the rest since a start that has heard what came before
 pub listens_again : (coming left : Option (List ℕ)) (state : ParseState) (heard none : List HeardChange)
     (s : ChangeStream) (h : HasStreamed coming left state heard s) → none ≡ []
     → HasHeardSince SIGNAL_LIMIT (start_of s heard)
-    (record { heard = none; first_word = s.listener.first_word }) s.reader.parser h.before
+    (record s.listener { heard = none }) s.reader.parser h.before
 listens_again coming left state heard none s h empty = record {
   asked = h.asked;
   taken = h.taken;
   heard = ap (λ hs. heard ++ hs) empty ∙ append-nil heard ∙ h.heard_is;
   first = h.first;
+  skipped = h.skipped;
+  size = h.size;
 }
 
 module _ (coming middle left : Option (List ℕ)) (state : ParseState) (heard : List HeardChange) (s now : ChangeStream)
@@ -120,7 +128,7 @@ module _ (coming middle left : Option (List ℕ)) (state : ParseState) (heard : 
       ∙ longer.1 ∙ ap (λ ws. ws ++ longer.0) (sym first_words) in
       record {
         later = q.state;
-        at = (hears.asked, q.at.0);
+        at = (hears.asked, q.at.0, hears.skipped);
         heard_now = heard_since (initial_state SIGNAL_LIMIT) state q.state h.taken.items q.items heard
             now.listener.heard (items_go_on SIGNAL_LIMIT h.asked hears.asked s.reader.parser now.reader.parser
             (words_of h.before) (words_of before) h.taken q (longer.0, words)) q.allowed
@@ -137,6 +145,8 @@ module _ (coming middle left : Option (List ℕ)) (state : ParseState) (heard : 
           state_is = refl;
           heard_is = total;
           first = hears.first;
+          skipped = hears.skipped;
+          size = hears.size;
         };
         ended = λ never. absurd (false≢true (sym never));
       }
@@ -158,7 +168,7 @@ module _ (coming middle left : Option (List ℕ)) (state : ParseState) (heard : 
       let (in_body, closed) = and_parts m.in_body (is_nothing m.item) complete in
       record {
         later = q.state;
-        at = (hears.asked, q.at.0);
+        at = (hears.asked, q.at.0, hears.skipped);
         heard_now = heard_since (initial_state SIGNAL_LIMIT) state q.state h.taken.items q.items heard
             now.listener.heard (items_go_on SIGNAL_LIMIT h.asked hears.asked s.reader.parser m (words_of h.before) whole
             h.taken q (longer.0, words)) q.allowed (h.taken.state_is ∙ h.state_is) q.state_is h.heard_is total;

@@ -11,6 +11,7 @@ use Rattle.vcd_text.specs.inside.reading.ChangeListener.{awaits_code}
 use Rattle.vcd_text.specs.inside.reading.FileReader.{HasReadBytes}
 use Rattle.vcd_text.specs.inside.reading.Part.{Asked, unheard}
 use Rattle.vcd_text.specs.inside.reading.Parser.{ParserMatches, HasTakenWords}
+use Rattle.vcd_text.specs.inside.reading.SkippedVariables.{HasSkipped, KnowsSize}
 use Rattle.vcd_text.specs.declared.reading.TheConstants.{LONG_FILE_LIMIT}
 use Rattle.vcd_text.specs.declared.reading.change_stream.ChangeStream.{ChangeStream}
 
@@ -25,6 +26,7 @@ bytes_to_come s = s.reader.bytes_left
 -- the stream has come to this state of its file
 abbrev pub IsStreamAt : ChangeStream → ParseState → Type 0
 IsStreamAt s state = (asked : Asked) × ParserMatches asked s.reader.parser state
+    × HasSkipped s.listener.skipped state.declared
 
 -- the source had `coming`, now has `left`; the bytes between were read. The items of their complete
 -- words lead to this state, and this was heard of them
@@ -42,6 +44,8 @@ pub record HasStreamed (coming left : Option (List ℕ)) (state : ParseState)
   pub heard_is : heard ≡ heard_all (initial_state SIGNAL_LIMIT) taken.items
   pub first : IsTrue (awaits_code s.reader.parser.item)
       → word_texts taken.begun ≡ s.listener.first_word.items ∷ []
+  pub skipped : HasSkipped s.listener.skipped taken.state.declared
+  pub size : KnowsSize s.reader.parser.item (word_texts taken.begun) s.listener.skipped
 
 -- from this state on, up to which `heard` was heard, the stream has come to a later one; `more`
 -- tells whether the file may go on, or has ended and is accepted

@@ -118,7 +118,7 @@ impl Variables {
 }
 
 /// Whether a variable of this kind and size is skipped.
-fn is_skipped(kind: &[u8], size: u64) -> bool
+pub fn is_skipped(kind: &[u8], size: u64) -> bool
     ensures { result ≡ (spec.is_skipped_kind kind.now || (size == 0 || nat_lt WIDTH_LIMIT size)) }
 {
     is_skipped_kind(kind) || size == 0 || size > WIDTH_LIMIT

@@ -21,7 +21,7 @@ loop-pair-preserved c =
       told = λ small.
           subst (AreTold c.args.self.bounds c.args.last (ys ++ x ∷ [])) (sym c.in_ok-push.ensures.items)
           (AllZip-push (IsToldOf c.args.self.bounds c.args.last) ys c.loop-pair.told.items x _
-          (c.loop-pair.invariant.told small) (c.finish.ensures small));
+          (c.loop-pair.invariant.told small) (c.in_ok-one.ensures small));
     }
 
 pub returns : goal.returns

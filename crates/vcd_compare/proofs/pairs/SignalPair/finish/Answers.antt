@@ -8,8 +8,8 @@ returns c small =
     let told : ComparedPair = record {
       first = c.self.inside.first;
       second = c.self.inside.second;
-      differences = c.finish-differences.result.differences;
-      short_run = c.finish-differences.result.short_run;
+      differences = c.in_ok-differences.differences;
+      short_run = c.in_ok-differences.short_run;
     } in
     subst (λ p. IsToldOf c.args.bounds c.args.last p told) c.self.view_is
-    (record { first = refl; second = refl; waves = c.finish-differences.ensures small })
+    (record { first = refl; second = refl; waves = c.in_ok-differences.ensures small })

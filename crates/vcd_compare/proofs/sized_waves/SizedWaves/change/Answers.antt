@@ -11,13 +11,15 @@ returns-in-Some-clause-changed c value reads =
     let bounds = c.args.bounds in
     let new = c.change.new.self in
     let read : c.in-Some.value ≡ value = same_Some _ _ (sym c.in-Some.is ∙ c.of_digits.ensures ∙ reads) in
+    let changed = c.change.ensures in
     subst (λ s. HasChanged bounds change.which change.tick value (waves_in s) new) (sym c.in-Narrow.is)
-    (subst (λ v. HasChanged bounds change.which change.tick v c.in-Narrow.waves new) read (record {
-      found = λ wave other. c.change.ensures.found wave other (λ v. (same_letters-Decides v v).1 refl);
-      tick_is = c.change.ensures.tick;
-      a = c.change.ensures.a;
-      b = c.change.ensures.b;
-    }))
+    (subst (λ p. HasChanged bounds change.which change.tick value p new) c.deref_mut.ensures.value
+    (subst (λ v. HasChanged bounds change.which change.tick v c.deref_mut.result.now new) read (record {
+      found = λ wave other. changed.found wave other (λ v. (same_letters-Decides v v).1 refl);
+      tick_is = changed.tick;
+      a = changed.a;
+      b = changed.b;
+    })))
 
 pub returns-in-Some-value_of_digits-clause-changed : goal.returns-in-Some-value_of_digits-clause-changed
 returns-in-Some-value_of_digits-clause-changed c value reads =
@@ -27,9 +29,10 @@ returns-in-Some-value_of_digits-clause-changed c value reads =
     let read : c.in-Some-value_of_digits.value ≡ value =
     same_Some _ _ (sym c.in-Some-value_of_digits.is ∙ c.value_of_digits.ensures ∙ reads) in
     let changed = c.change-in-Some-value_of_digits.ensures in
+    let lent = c.deref_mut-in-Some-value_of_digits in
     subst (λ s. HasChanged bounds change.which change.tick value (waves_in s) new) (sym c.in-Wide.is)
-    (subst (λ p. HasChanged bounds change.which change.tick value p new) c.deref_mut.ensures.value
-    (subst (λ v. HasChanged bounds change.which change.tick v c.deref_mut.result.now new) read (record {
+    (subst (λ p. HasChanged bounds change.which change.tick value p new) lent.ensures.value
+    (subst (λ v. HasChanged bounds change.which change.tick v lent.result.now new) read (record {
       found = λ wave other. changed.found wave other (λ v. (same_letters-Decides v v).1 refl);
       tick_is = changed.tick;
       a = changed.a;

@@ -4,23 +4,29 @@ use Rattle.vcd_compare.specs.inside.Pairs.{AreToldOf}
 use Rattle.vcd_compare.specs.inside.SizedWaves.{waves_in}
 use Rattle.vcd_compare.proofs.sized_waves.SizedWaves.finish.Goals as goal
 
-pub returns-in-Narrow : goal.returns-in-Narrow
-returns-in-Narrow c small =
-    let told = c.widened.result in
-    subst (λ s. AreToldOf c.args.bounds c.args.last (waves_in s) told.differences told.short_run) (sym c.in-Narrow.is)
-    (subst (λ o. AreToldOf c.args.bounds c.args.last c.in-Narrow.waves o.differences o.short_run)
-    (sym c.widened.ensures) (λ wave other upto found has_a has_b. (
-      c.finish.ensures.differences wave other (λ v. (same_letters-Decides v v).1 refl) upto small found has_a has_b,
-      c.finish.ensures.short_run wave other (λ v. (same_letters-Decides v v).1 refl) upto found has_a has_b,
-    )))
+pub returns-in_ok-differences-in-Narrow : goal.returns-in_ok-differences-in-Narrow
+returns-in_ok-differences-in-Narrow c small =
+    let told = c.in_ok-differences-in-Narrow in
+    let found = c.finish-found in
+    subst (λ s. AreToldOf c.args.bounds c.args.last (waves_in s) told.differences found.result.short_run)
+    (sym c.in-Narrow.is)
+    (subst (λ p. AreToldOf c.args.bounds c.args.last p told.differences found.result.short_run) c.into_inner.ensures
+    (subst (λ d. AreToldOf c.args.bounds c.args.last c.into_inner.result d found.result.short_run) (sym told.ensures)
+    (λ wave other upto has has_a has_b. (
+      found.ensures.differences wave other (λ v. (same_letters-Decides v v).1 refl) upto small has has_a has_b,
+      found.ensures.short_run wave other (λ v. (same_letters-Decides v v).1 refl) upto has has_a has_b,
+    ))))
 
-pub returns-in-Wide : goal.returns-in-Wide
-returns-in-Wide c small =
-    let told = c.finish-in-Wide.result in
-    subst (λ s. AreToldOf c.args.bounds c.args.last (waves_in s) told.differences told.short_run) (sym c.in-Wide.is)
-    (subst (λ p. AreToldOf c.args.bounds c.args.last p told.differences told.short_run)
-    c.into_inner.ensures (λ wave other upto found has_a has_b. (
-      c.finish-in-Wide.ensures.differences wave other (λ v. (same_letters-Decides v v).1 refl) upto small found has_a
-          has_b,
-      c.finish-in-Wide.ensures.short_run wave other (λ v. (same_letters-Decides v v).1 refl) upto found has_a has_b,
-    )))
+pub returns-in_ok-differences-in-Wide : goal.returns-in_ok-differences-in-Wide
+returns-in_ok-differences-in-Wide c small =
+    let told = c.in_ok-differences-in-Wide in
+    let found = c.finish-found-in-Wide in
+    subst (λ s. AreToldOf c.args.bounds c.args.last (waves_in s) told.differences found.result.short_run)
+    (sym c.in-Wide.is)
+    (subst (λ p. AreToldOf c.args.bounds c.args.last p told.differences found.result.short_run)
+    c.into_inner-in-Wide.ensures
+    (subst (λ d. AreToldOf c.args.bounds c.args.last c.into_inner-in-Wide.result d found.result.short_run)
+    (sym told.ensures) (λ wave other upto has has_a has_b. (
+      found.ensures.differences wave other (λ v. (same_letters-Decides v v).1 refl) upto small has has_a has_b,
+      found.ensures.short_run wave other (λ v. (same_letters-Decides v v).1 refl) upto has has_a has_b,
+    ))))

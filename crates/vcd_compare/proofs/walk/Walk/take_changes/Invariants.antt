@@ -2,7 +2,7 @@
 use Rattle.std.proofs.Common.{◌≡◌, ◌+◌, ℕ, List, Option, length}
 use Rattle.vcd_text.specs.Grammar.{ParseState}
 use Rattle.vcd_compare.specs.inside.Side.{at_hand}
-use Rattle.vcd_compare.specs.inside.WalkSteps.{IsWalkAt}
+use Rattle.vcd_compare.specs.inside.WalkSteps.{IsWalkAt, IsLast}
 use Rattle.vcd_compare.specs.declared.walk.Walk.{Walk}
 use Rattle.vcd_compare.proofs.walk.Walk.take_changes.Given as goal
 
@@ -13,6 +13,7 @@ invariant-loop-which l = record {
       → IsWalkAt l.fn.most coming other left other_left s t start l.self;
   first : l.self.first ≡ record l.fn.self.first { taken = l.self.first.taken };
   second : l.self.second ≡ record l.fn.self.second { taken = l.self.second.taken };
+  last : IsLast l.fn.most l.last l.self;
 }
 
 abbrev pub decreases-loop-which : goal.decreases-loop-which

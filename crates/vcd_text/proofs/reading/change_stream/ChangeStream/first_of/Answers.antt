@@ -7,7 +7,7 @@ use Rattle.vcd_text.proofs.reading.change_listener.HeardCodes.{first_of_variable
 use Rattle.vcd_text.proofs.reading.change_stream.ChangeStream.first_of.Goals as goal
 
 pub returns-in-Some : goal.returns-in-Some
-returns-in-Some c state d (asked, at) there =
+returns-in-Some c state d (asked, at, listed) there =
     let m = c.args.self.now.reader.parser in
     let found = c.in-Some.ensures.lookup in
     first_of_variable m.variables (seen_state m.part state at.seen) at.variables c.args.position
@@ -15,7 +15,7 @@ returns-in-Some c state d (asked, at) there =
     ∙ slice_get_read c.deref.result.now _ c.args.position c.in-Some.variable.now refl found.3.0 found.1) there
 
 pub returns-in-None : goal.returns-in-None
-returns-in-None c state d (asked, at) there =
+returns-in-None c state d (asked, at, listed) there =
     let m = c.args.self.now.reader.parser in
     let (v, is) = variable_at m.variables (seen_state m.part state at.seen) at.variables c.args.position d there in
     let none : ◌≡◌ {A = Option Variable} None (Some v) =

@@ -9,7 +9,7 @@ returns c =
     let buffer = c.self.inside.text.items in
     let text = c.args.text.now in
     let places = c.self.inside.places.items in
-    rw (c.in_ok-push.ensures.items, c.in_ok-extend_from_slice.ensures.items)
+    rw (c.in_ok-push.ensures.items, c.in_ok-append_text.ensures.text)
     (map-append (placed_change (buffer ++ text)) places _
     ∙ (λ i. (places_stay buffer text places c.self.invariant ∙ c.self.view_is) i
     ++ record {
@@ -17,6 +17,6 @@ returns c =
       target = c.args.target;
       text = text_placed buffer text c.len-start.result
           c.len-end.result (c.len-start.ensures ∙ c.self.inside.text.ok.0) (c.len-end.ensures
-          ∙ c.extend_from_slice.new.self.ok.0 ∙ ap length c.in_ok-extend_from_slice.ensures.items
+          ∙ c.append_text.new.buffer.ok.0 ∙ ap length c.in_ok-append_text.ensures.text
           ∙ length-append buffer text) i;
     } ∷ []))

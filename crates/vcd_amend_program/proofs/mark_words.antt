@@ -1,0 +1,2 @@
+-- Lemmas of `mark_words`.
+pub mod EscapedBytes

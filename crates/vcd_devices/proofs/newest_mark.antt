@@ -1,2 +1,0 @@
--- Lemmas of `newest_mark`.
-pub mod KeptMarks

@@ -1,3 +1,0 @@
--- Definitions that only contracts of private functions and proofs cite. A reader need not believe
--- them.
-pub mod KeptMarks

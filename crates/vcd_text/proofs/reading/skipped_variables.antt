@@ -1,0 +1,2 @@
+-- Lemmas of `reading/skipped_variables`.
+pub mod Listed
