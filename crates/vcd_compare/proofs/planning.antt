@@ -1,2 +1,3 @@
 -- Lemmas of `planning`.
+pub mod Begun
 pub mod Planned

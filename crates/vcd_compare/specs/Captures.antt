@@ -1,4 +1,4 @@
--- What is compared of two captures: their times, their names, and which signals are a pair. The
+-- What is compared of two captures: their times, their names, and which variables are a pair. The
 -- rules are the project's own.
 use Rattle.std.specs.Prelude.{ℕ, ◌*◌, ◌/◌, ◌==◌, ◌&&◌, ◌||◌, not, Bool, true}
 use Rattle.std.specs.Prelude.{nat_le, if◌then◌else◌, Option, Some, None, List, []}
@@ -57,40 +57,40 @@ mapped_name [] name = name
 mapped_name (m ∷ maps) name = if fits_map m name then m.new.now ++ drop (length m.old.now) name
     else mapped_name maps name
 
--- the names by which the signals of the first capture are paired
+-- the names by which the variables of the first capture are paired
 abbrev pub mapped_names : CompareRequest → Contents → List (List ℕ)
 mapped_names r a = map (mapped_name r.maps.now) (full_names a.signals)
 
--- whether a signal is asked for, by its name, or by what that is in the second capture
+-- whether a variable is asked for, by its name, or by what that is in the second capture
 abbrev pub is_asked : CompareRequest → (name mapped : List ℕ) → Bool
 is_asked r name mapped =
     meets_one true (texts r.keep) name || meets_one true (texts r.keep) mapped
 
--- ---- what is told
+-- ---- what is told, if the signals of `a` and `b` are all variables of two captures (`with_all`)
 
--- what is told of a signal and its partner, if it was asked for
+-- what is told of a variable and its partner, if it was asked for
 abbrev pub outcome_of : (a b : Contents) → (k : ℕ) → (partner : Option ℕ) → Outcome
 outcome_of a b k None = outcomes.NoPartner
 outcome_of a b k (Some j) = if (signal_at a k).width == (signal_at b j).width
     then outcomes.Compared j else outcomes.OtherWidth j
 
--- what is told of the signal at a position of the first capture
+-- what is told of the variable at a position of the first capture
 abbrev pub outcome_at : CompareRequest → (a b : Contents) → ℕ → Outcome
 outcome_at r a b k =
     if is_asked r (full_name (signal_at a k)) (mapped_name r.maps.now (full_name (signal_at a k)))
     then outcome_of a b k (partner_of (mapped_names r a) (full_names b.signals) k)
     else outcomes.NotAsked
 
--- what is told of each signal of the first capture
+-- what is told of each variable of the first capture
 abbrev pub outcomes_of : CompareRequest → (a b : Contents) → List Outcome
 outcomes_of r a b = map (outcome_at r a b) (range_with_len 0 (length a.signals))
 
--- whether a signal of the second capture is asked for, and has no partner
+-- whether a variable of the second capture is asked for, and has no partner
 abbrev pub is_only_in_second : CompareRequest → (a b : Contents) → ℕ → Bool
 is_only_in_second r a b j =
     meets_one true (texts r.keep) (full_name (signal_at b j))
     && not (is_some (partner_of (full_names b.signals) (mapped_names r a) j))
 
--- the signals of the second capture that are asked for, and have no partner
+-- the variables of the second capture that are asked for, and have no partner
 abbrev pub only_in_second : CompareRequest → (a b : Contents) → List ℕ
 only_in_second r a b = filter (is_only_in_second r a b) (range_with_len 0 (length b.signals))

@@ -2,6 +2,9 @@
 pub mod Differences
 pub mod ShortestRun
 pub mod Laws
+pub mod VariableDifferences
+pub mod Variables
+pub mod LeftOut
 pub mod Pairs
 pub mod Captures
 pub mod Comparisons

@@ -8,6 +8,8 @@ pub mod Pairing
 pub mod WavePair
 pub mod Occurrences
 pub mod Pairs
+pub mod LastTicks
+pub mod LeftOut
 pub mod Side
 pub mod Walk
 pub mod WalkSteps

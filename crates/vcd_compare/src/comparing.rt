@@ -157,10 +157,12 @@ fn conclude(alloc: Global, prepared: Prepared, walk: Walk) -> Result<Comparison,
         first: ComparedCapture {
             stream: first.stream,
             factor: scale.first,
+            left_out: first.left_out,
         },
         second: ComparedCapture {
             stream: second.stream,
             factor: scale.second,
+            left_out: second.left_out,
         },
         timescale: scale.timescale,
         tolerance,

@@ -3,17 +3,19 @@
 ghost use Rattle.std.specs.Prelude.{◌≡◌};
 ghost use Rattle.vcd_compare.specs.declared.comparison.CompareError.TheVariants as errors;
 
+use crate::left_out::LeftOut;
 use crate::pairs::ComparedPair;
 use crate::request::CompareRefusal;
 use vcd_core::{NoMemory, Timescale};
 use vcd_text::{ChangeStream, Declarations, ReadError, TickRange};
 
-/// What is told of a signal of the first capture; positions are those of its partner.
+/// What is told of a variable of the first capture; positions are those of its partner. The
+/// variables of a capture are its signals, and after them the skipped ones.
 #[derive(Clone, Copy, Debug, PartialEq, Eq)]
 pub enum Outcome {
     /// It was not asked for.
     NotAsked,
-    /// The second capture has no such signal.
+    /// The second capture has no such variable.
     NoPartner,
     /// Its partner has another width.
     OtherWidth(usize),
@@ -28,6 +30,8 @@ pub struct ComparedCapture {
     pub stream: ChangeStream,
     /// How many ticks of the finer timescale its tick has.
     pub factor: u64,
+    /// What the comparison leaves out of it.
+    pub left_out: LeftOut,
 }
 
 /// What the comparison of two captures tells.
@@ -43,11 +47,11 @@ pub struct Comparison {
     pub window: TickRange,
     /// Whether the window goes as far as it could, and the ends differ by more than the tolerance.
     pub has_other_end: bool,
-    /// What is told of each signal of the first capture.
+    /// What is told of each variable of the first capture.
     pub outcomes: Vec<Outcome>,
-    /// The signals that were compared, in the order of the first capture.
+    /// The variables that were compared, in the order of the first capture.
     pub compared: Vec<ComparedPair>,
-    /// The signals of the second capture that were asked for, and have no partner.
+    /// The variables of the second capture that were asked for, and have no partner.
     pub only_in_second: Vec<usize>,
 }
 

@@ -1,4 +1,4 @@
-//! Which signals of two captures a request asks for, and which are a pair, by their names.
+//! Which variables of two captures a request asks for, and which are a pair, by their names.
 
 ghost use Rattle.std.specs.Prelude.{◌≡◌, ◌++◌, ℕ, List, true, IfOk, OnOk, map};
 ghost use Rattle.vcd_part.specs.Requests.{meets_one, texts as patterns_of};
@@ -13,16 +13,16 @@ use std::alloc::Global;
 use vcd_core::{FullName, NoMemory};
 use vcd_part::Patterns;
 
-/// What a request says of the signals of two captures.
+/// What a request says of the variables of two captures.
 #[derive(Drop)]
 pub struct Matching {
-    /// Whether each signal of the first capture is asked for by its name.
+    /// Whether each variable of the first capture is asked for by its name.
     pub by_name: Vec<bool>,
     /// The same by what its name is in the second capture.
     pub by_mapped: Vec<bool>,
-    /// Whether each signal of the second capture is asked for.
+    /// Whether each variable of the second capture is asked for.
     pub of_second: Vec<bool>,
-    /// The partner of each signal of the first capture, by its name in the second.
+    /// The partner of each variable of the first capture, by its name in the second.
     pub partners: Vec<Option<usize>>,
     /// The first pattern that no name meets.
     pub unmet_pattern: Option<usize>,
@@ -30,7 +30,7 @@ pub struct Matching {
     pub unmet_map: Option<usize>,
 }
 
-/// What a request says of signals with these names.
+/// What a request says of variables with these names.
 ///
 /// Time: two look-ups of each name, which is compared with each pattern and map, and of the first
 /// capture what it is in the second, too.

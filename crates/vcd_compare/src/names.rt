@@ -1,20 +1,34 @@
-//! The full names of signals, and what they are in another capture.
+//! The full names of variables, and what they are in another capture.
 
-ghost use Rattle.std.specs.Prelude.{◌≡◌, ◌≤◌, ◌++◌, IfOk, map, length, not, true};
+ghost use Rattle.std.specs.Prelude.{◌≡◌, ◌≤◌, ◌++◌, IfOk, OnOk, map, length, not, true};
 ghost use Rattle.std.specs.List.{list_any, position};
 ghost use Rattle.vcd_core.specs.Names.{full_name, full_names};
 ghost use Rattle.vcd_text.specs.AsDeclared.{signal_declared};
+ghost use Rattle.vcd_text.specs.Grammar.{ParseState};
+ghost use Rattle.vcd_text.specs.inside.reading.ChangeStream.{IsStreamAt};
 ghost use Rattle.vcd_text.specs.inside.reading.DeclaredSignals.{declared_contents};
 ghost use Rattle.vcd_compare.specs.Captures as spec;
 ghost use Rattle.vcd_compare.specs.inside.Pairing.{texts};
+ghost use Rattle.vcd_compare.specs.inside.Planning.{declared_names, listed_names};
 
 use crate::request::NameMap;
 use std::alloc::Global;
 use vcd_core::{FullName, NoMemory};
-use vcd_text::{Declarations, DeclaredSignal, copy_name};
+use vcd_text::{ChangeStream, Declarations, DeclaredSignal, SkippedVariable, copy_name};
+
+/// The full names of all variables of a file: of its signals, and after them of the skipped ones.
+pub fn names_of(alloc: Global, stream: &ChangeStream) -> Result<Vec<Vec<u8>>, NoMemory>
+    requires at { (s : ParseState) × IsStreamAt stream.now s }
+    ensures { IfOk result (λ names. (s : ParseState) → IsStreamAt stream.now s →
+        texts names.items ≡ declared_names s.declared) }
+{
+    let mut names = signal_names(alloc, &stream.signals())?;
+    add_names(alloc, &mut names, stream.skipped_variables())?;
+    Ok(names)
+}
 
 /// The full names of signals, in their order.
-pub fn names_of(alloc: Global, signals: &Declarations) -> Result<Vec<Vec<u8>>, NoMemory>
+fn signal_names(alloc: Global, signals: &Declarations) -> Result<Vec<Vec<u8>>, NoMemory>
     ensures { IfOk result (λ names.
         texts names.items ≡ full_names (declared_contents signals.now)) }
 {
@@ -23,6 +37,22 @@ pub fn names_of(alloc: Global, signals: &Declarations) -> Result<Vec<Vec<u8>>, N
         names.push(name_of(alloc, signals.get(position))?)?;
     }
     Ok(names)
+}
+
+/// Adds the full names of skipped variables.
+fn add_names(
+    alloc: Global,
+    names: &mut Vec<Vec<u8>>,
+    skipped: &[SkippedVariable],
+) -> Result<(), NoMemory>
+    ensures { OnOk result (texts names.new.items
+        ≡ texts names.old.items ++ listed_names skipped.now) }
+{
+    for variable in skipped {
+        let name = Vec::from_slice(alloc, variable.name.as_slice())?;
+        names.push(name)?;
+    }
+    Ok(())
 }
 
 /// The full name of a signal, in a list of its own.

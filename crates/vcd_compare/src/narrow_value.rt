@@ -5,8 +5,9 @@ ghost use Rattle.vcd_core.specs.BlockRows.{letters_of};
 ghost use Rattle.vcd_core.specs.Value as values;
 ghost use Rattle.vcd_text.specs.Letters as letters;
 
+use crate::compared_value::ComparedValue;
 use std::marker::Model;
-use vcd_core::{Bit, LetterBlock, Value};
+use vcd_core::{Bit, LetterBlock, NoMemory, Value};
 use vcd_text::read_letter_block;
 
 /// A value of 1 to 64 bits. The letters of its block past the width are 0.
@@ -91,6 +92,17 @@ impl PartialEq for NarrowValue {
         (self.width == other.width)
             & (self.block.low == other.block.low)
             & (self.block.high == other.block.high)
+    }
+}
+
+impl ComparedValue for NarrowValue {
+    ghost use Rattle.vcd_core.specs.inside.value.EqualByLetters.{same_letters-Decides};
+
+    ghost decides = { same_letters-Decides };
+
+    #[inline(always)]
+    fn copied(&self) -> Result<NarrowValue, NoMemory> {
+        Ok(*self)
     }
 }
 

@@ -1,46 +1,45 @@
-//! What is told of each signal of two captures, before any change.
+//! What is told of each variable of two captures, before any change.
 
 ghost use Rattle.std.specs.Prelude.{◌≡◌, IfOk, slice_set, slice_index_or, true, false};
 ghost use Rattle.vcd_core.specs.Contents.{Contents};
-ghost use Rattle.vcd_text.specs.inside.reading.DeclaredSignals.{declared_contents};
 ghost use Rattle.vcd_compare.specs.Captures as spec;
 ghost use Rattle.vcd_compare.specs.declared.request.CompareRequest.{CompareRequest};
-ghost use Rattle.vcd_compare.specs.inside.Outcomes.{Declares, MatchesNames, outcome_in, all_marked};
+ghost use Rattle.vcd_compare.specs.inside.Outcomes.{HasWidths, MatchesNames, outcome_in};
+ghost use Rattle.vcd_compare.specs.inside.Outcomes.{all_marked};
 ghost use Rattle.vcd_compare.specs.inside.Outcomes as inside;
 
 use crate::comparison::Outcome;
 use crate::matching::Matching;
+use crate::variables::{PlannedVariable, variable_at};
 use std::alloc::Global;
 use vcd_core::NoMemory;
-use vcd_text::Declarations;
 
-/// What is told of each signal of the first capture.
+/// What is told of each variable of the first capture.
 pub fn outcomes_of(
     alloc: Global,
     matching: &Matching,
-    signals: &Declarations,
-    others: &Declarations,
+    variables: &[PlannedVariable],
+    others: &[PlannedVariable],
 ) -> Result<Vec<Outcome>, NoMemory>
     ensures { IfOk result (λ outcomes. (r : CompareRequest) (a b : Contents) →
-        MatchesNames r a b matching.now → Declares (declared_contents signals.now) a →
-        Declares (declared_contents others.now) b → outcomes.items ≡ spec.outcomes_of r a b) }
+        MatchesNames r a b matching.now → HasWidths variables.now a → HasWidths others.now b →
+        outcomes.items ≡ spec.outcomes_of r a b) }
 {
-    let mut outcomes = Vec::with_capacity(alloc, signals.len())?;
-    for position in 0..signals.len() {
-        outcomes.push(outcome_at(matching, signals, others, position))?;
+    let mut outcomes = Vec::with_capacity(alloc, variables.len())?;
+    for position in 0..variables.len() {
+        outcomes.push(outcome_at(matching, variables, others, position))?;
     }
     Ok(outcomes)
 }
 
-/// What is told of a signal of the first capture.
+/// What is told of a variable of the first capture.
 fn outcome_at(
     matching: &Matching,
-    signals: &Declarations,
-    others: &Declarations,
+    variables: &[PlannedVariable],
+    others: &[PlannedVariable],
     position: usize,
 ) -> Outcome
-    ensures { result ≡ outcome_in matching.now (declared_contents signals.now)
-        (declared_contents others.now) position }
+    ensures { result ≡ outcome_in matching.now variables.now others.now position }
 {
     if !is_set(&matching.by_name, position) && !is_set(&matching.by_mapped, position) {
         return Outcome::NotAsked;
@@ -48,25 +47,14 @@ fn outcome_at(
     let Some(partner) = matching.partners.get(position).copied().unwrap_or(None) else {
         return Outcome::NoPartner;
     };
-    if width_at(signals, position) == width_at(others, partner) {
+    if variable_at(variables, position).width == variable_at(others, partner).width {
         Outcome::Compared(partner)
     } else {
         Outcome::OtherWidth(partner)
     }
 }
 
-/// The width of the signal at a position; of a position past them all 1.
-pub fn width_at(signals: &Declarations, position: usize) -> u64
-    ensures { result ≡ inside.width_at (declared_contents signals.now) position }
-{
-    if position < signals.len() {
-        signals.get(position).width
-    } else {
-        1
-    }
-}
-
-/// The signals of the second capture that are asked for, and have no partner.
+/// The variables of the second capture that are asked for, and have no partner.
 pub fn only_in_second(alloc: Global, matching: &Matching) -> Result<Vec<usize>, NoMemory>
     ensures { IfOk result (λ found. (r : CompareRequest) (a b : Contents) →
         MatchesNames r a b matching.now → found.items ≡ spec.only_in_second r a b) }
@@ -98,7 +86,7 @@ fn is_set(marks: &[bool], position: usize) -> bool
     marks.get(position).copied().unwrap_or(false)
 }
 
-/// Marks the partners of signals.
+/// Marks the partners of variables.
 fn mark_all(marks: &mut [bool], partners: &[Option<usize>])
     ensures { marks.new ≡ all_marked marks.old partners.now }
 {

@@ -1,4 +1,4 @@
-//! The signals of two captures as pairs, by their full names.
+//! The variables of two captures as pairs, by their full names.
 
 ghost use Rattle.std.specs.Prelude.{◌≡◌, ◌<◌, ◌-◌, None, length, slice_index_or};
 ghost use Rattle.std.specs.Prelude.{IfOk, IfSome};
@@ -9,17 +9,17 @@ use indexmap::IndexMap;
 use std::alloc::Global;
 use vcd_core::NoMemory;
 
-/// The signals of a capture by their names.
+/// The variables of a capture by their names.
 #[derive(Drop)]
 struct Namesakes {
-    /// The position of the first signal of each name.
+    /// The position of the first variable of each name.
     first: IndexMap<Vec<u8>, usize>,
-    /// The position of the next signal with the name of each one, that of the last signal first.
+    /// The position of the next variable with the name of each one, that of the last one first.
     next: Vec<Option<usize>>,
 }
 
 impl Namesakes {
-    /// The signals with these names.
+    /// The variables with these names.
     fn new(alloc: Global, names: Vec<Vec<u8>>) -> Result<Namesakes, NoMemory>
         ensures { IfOk result (HasNamesakes (texts names.items)) }
     {
@@ -33,15 +33,15 @@ impl Namesakes {
         Ok(Namesakes { first, next })
     }
 
-    /// The first signal of a name.
+    /// The first variable of a name.
     fn first(&self, name: &Vec<u8>) -> Option<usize>
         ensures { result ≡ index_in self.now.first name.now.items }
     {
         self.first.get(name.as_slice()).copied()
     }
 
-    /// The partner of a signal, where `before` is the last one before it with its name, and `first`
-    /// the first of the other capture. Those before it have these partners.
+    /// The partner of a variable, where `before` is the last one before it with its name, and
+    /// `first` the first of the other capture. Those before it have these partners.
     fn partner_after(
         &self,
         partners: &[Option<usize>],
@@ -61,10 +61,10 @@ impl Namesakes {
     }
 }
 
-/// The partner of each signal of the first capture, by its position in the second: of several with
-/// one name the first and the first are a pair, the second and the second, and so on.
+/// The partner of each variable of the first capture, by its position in the second: of several
+/// with one name the first and the first are a pair, the second and the second, and so on.
 ///
-/// Time: two look-ups of each name. Memory: the names, and a few words for each signal.
+/// Time: two look-ups of each name. Memory: the names, and a few words for each variable.
 pub fn partners(
     alloc: Global,
     names: Vec<Vec<u8>>,

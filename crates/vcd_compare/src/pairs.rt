@@ -1,13 +1,11 @@
-//! The pairs of signals that are compared, while the changes of both captures come.
+//! The pairs of variables that are compared, while the changes of both captures come.
 
-ghost use Rattle.std.specs.Prelude.{◌≡◌, ◌<◌, ◌≤◌, ◌-◌, ◌^◌, ◌++◌, ◌∷◌, [], ℕ, List, Some};
+ghost use Rattle.std.specs.Prelude.{◌≡◌, ◌<◌, ◌-◌, ◌^◌, ◌++◌, ◌∷◌, [], ℕ, Some};
 ghost use Rattle.std.specs.Prelude.{map, length, IfOk, OnOk};
-ghost use Rattle.vcd_core.specs.declared.bit.Bit.{Bit as Letter};
-ghost use Rattle.vcd_text.specs.Letters as letters;
 ghost use Rattle.vcd_compare.specs.inside.Occurrences.{HasOccurrences, IsLastPlace};
 ghost use Rattle.vcd_compare.specs.inside.Pairs.{AreListed, ArePairsAfter, variable_in, IsToldOf};
 ghost use Rattle.vcd_compare.specs.inside.Pairs.{chosen};
-ghost use Rattle.vcd_compare.specs.inside.Pairs.{AreTold, HasChanged};
+ghost use Rattle.vcd_compare.specs.inside.Pairs.{AreTold, HasText};
 
 use crate::differences::{Difference, Differences};
 use crate::narrow_value::NarrowValue;
@@ -17,6 +15,7 @@ use crate::sized_waves::SizedWaves;
 use crate::told_differences::ToldDifferences;
 use crate::wave_comparison::{OpenDifference, WaveComparison};
 use crate::wave_pair::{Bounds, WaveFindings, WavePair};
+use crate::word_value::WordValue;
 use std::alloc::Global;
 use std::marker::Model;
 use vcd_core::{NoMemory, Value};
@@ -29,7 +28,7 @@ pub enum Which {
     Second,
 }
 
-/// What is told of two signals that were compared.
+/// What is told of two variables that were compared.
 #[derive(Drop)]
 pub struct ComparedPair {
     /// The position of the one in the first capture, and of its partner in the second.
@@ -41,7 +40,7 @@ pub struct ComparedPair {
     pub short_run: Option<u64>,
 }
 
-/// Two signals that are compared.
+/// Two variables that are compared.
 #[derive(Drop)]
 pub struct SignalPair {
     /// Their positions.
@@ -50,7 +49,7 @@ pub struct SignalPair {
     /// The positions of the first variable with the code of each.
     pub first_variable: usize,
     pub second_variable: usize,
-    /// The width of both.
+    /// The width of both, which says nothing of words.
     pub width: u64,
     pub waves: SizedWaves,
 }
@@ -69,14 +68,13 @@ impl Model for SignalPair {
 
 impl SignalPair {
     /// One of both variables has changed.
-    fn change(&mut self, bounds: Bounds, change: &VariableChange<'_>)
+    fn change(&mut self, bounds: Bounds, change: &VariableChange<'_>) -> Result<(), NoMemory>
         ensures others { self.new ≡ record self.old { waves = self.new.waves } }
-        ensures changed { (value : List Letter) →
-            letters.value_of_digits self.old.width change.now.digits.now ≡ Some value →
-            HasChanged bounds change.now.which change.now.tick value self.old.waves
-            self.new.waves }
+        ensures changed { OnOk result (HasText self.old.width bounds change.now.which
+            change.now.tick change.now.text.now self.old.waves self.new.waves) }
     {
-        self.waves.change(bounds, self.width, change);
+        self.waves.change(bounds, self.width, change)?;
+        Ok(())
     }
 
     /// What is told, if `last` is the last tick of the window.
@@ -99,12 +97,13 @@ impl SignalPair {
     }
 }
 
-/// The types within a pair. A function that moves a pair names them in this way, since the prover
-/// does not find their modules by itself.
+/// The types within a pair. A function that moves a pair names a reference to them, which has
+/// nothing to drop, since the prover does not find their modules by itself.
 type PairTypes = (
     TickRange,
     TypesWithin<Value>,
     TypesWithin<NarrowValue>,
+    TypesWithin<WordValue>,
     SizedWaves,
 );
 
@@ -119,12 +118,13 @@ type TypesWithin<V> = (
     WavePair<V>,
 );
 
-/// A variable of one of the captures has from a tick on the value that these digits write.
+/// A variable of one of the captures has from a tick on the value that a text writes, or the text
+/// itself, if it has no letters.
 #[derive(Clone, Copy)]
 pub struct VariableChange<'a> {
     pub which: Which,
     pub tick: u64,
-    pub digits: &'a [u8],
+    pub text: &'a [u8],
 }
 
 /// All pairs, up to a tick.
@@ -165,7 +165,7 @@ impl Pairs {
             pair.first_variable < count → pair.second_variable < others →
             AreListed count others self.new) }
     {
-        let _held: Option<PairTypes> = None;
+        let _held: Option<&PairTypes> = None;
         self.of_first.push(pair.first_variable)?;
         self.of_second.push(pair.second_variable)?;
         self.all.push(pair)?;
@@ -173,20 +173,21 @@ impl Pairs {
     }
 
     /// A variable has changed.
-    pub fn change(&mut self, variable: usize, change: &VariableChange<'_>)
+    pub fn change(&mut self, variable: usize, change: &VariableChange<'_>) -> Result<(), NoMemory>
         ensures bounds { self.new.bounds ≡ self.old.bounds }
-        ensures listed { (count others : ℕ) → AreListed count others self.old →
-            variable < chosen change.now.which count others → AreListed count others self.new }
-        ensures changed { (count others : ℕ) → AreListed count others self.old →
+        ensures listed { OnOk result ((count others : ℕ) → AreListed count others self.old →
+            variable < chosen change.now.which count others → AreListed count others self.new) }
+        ensures changed { OnOk result ((count others : ℕ) → AreListed count others self.old →
             variable < chosen change.now.which count others →
             ArePairsAfter self.old.bounds change.now.which variable change.now.tick
-            change.now.digits.now self.old.all.items self.new.all.items }
+            change.now.text.now self.old.all.items self.new.all.items) }
     {
         let places = places_of(change.which, &self.of_first, &self.of_second);
         let Some(last) = places.last(variable) else {
-            return;
+            return Ok(());
         };
-        change_all(&mut self.all, places, self.bounds, last, change);
+        change_all(&mut self.all, places, self.bounds, last, change)?;
+        Ok(())
     }
 
     /// What is told of each pair, if `last` is the last tick of the window.
@@ -194,7 +195,7 @@ impl Pairs {
         ensures { last < 2 ^ 64 - 1 →
             IfOk result (λ told. AreTold self.bounds last self.all.items told.items) }
     {
-        let _held: Option<PairTypes> = None;
+        let _held: Option<&PairTypes> = None;
         let Pairs { bounds, all, .. } = self;
         let mut told = Vec::with_capacity(alloc, all.len())?;
         for pair in all {
@@ -222,19 +223,20 @@ fn change_all(
     bounds: Bounds,
     last: usize,
     change: &VariableChange<'_>,
-)
-    ensures { (limit variable : ℕ) →
+) -> Result<(), NoMemory>
+    ensures { OnOk result ((limit variable : ℕ) →
         HasOccurrences limit (map (variable_in change.now.which) all.old) places.now →
         IsLastPlace (map (variable_in change.now.which) all.old) (length all.old) variable
         (Some last) →
-        ArePairsAfter bounds change.now.which variable change.now.tick change.now.digits.now
-        all.old all.new }
+        ArePairsAfter bounds change.now.which variable change.now.tick change.now.text.now
+        all.old all.new) }
 {
     let mut at = Some(last);
     while let Some(place) = at {
         if place < all.len() {
-            all[place].change(bounds, change);
+            all[place].change(bounds, change)?;
         }
         at = places.before(place);
     }
+    Ok(())
 }

@@ -1,32 +1,36 @@
 //! The plan of a comparison, by the declarations of two files.
 
-ghost use Rattle.std.specs.Prelude.{◌≡◌, IfOk, length, map};
+ghost use Rattle.std.specs.Prelude.{◌≡◌, ◌≤◌, List, IfOk, length, map};
 ghost use Rattle.vcd_core.specs.Contents.{Contents};
-ghost use Rattle.vcd_text.specs.Grammar.{ParseState, kept_variables, VariableDeclaration};
+ghost use Rattle.vcd_core.specs.declared.value.TheConstants.{WIDTH_LIMIT as LIMIT};
+ghost use Rattle.vcd_text.specs.Grammar.{ParseState, VariableDeclaration};
 ghost use Rattle.vcd_text.specs.inside.reading.ChangeStream.{IsStreamAt};
 ghost use Rattle.vcd_compare.specs.inside.Outcomes.{AreComparable, compared_positions};
 ghost use Rattle.vcd_compare.specs.inside.Planning.{HasDeclared, IsPlanOf, ArePairsOf};
-ghost use Rattle.vcd_compare.specs.inside.Planning.{AllComparable, pair_positions};
+ghost use Rattle.vcd_compare.specs.inside.Planning.{AllComparable, AreFirstWaves, pair_positions};
+ghost use Rattle.vcd_compare.specs.inside.Planning.{planned_variables};
+ghost use Rattle.vcd_compare.specs.inside.SizedWaves.{IsSized, waves_in};
 ghost use Rattle.vcd_compare.specs.inside.Walk.{IsPlannedPair};
 
 use crate::comparison::Outcome;
 use crate::matching::match_signals;
 use crate::names::names_of;
-use crate::outcomes::{only_in_second, outcomes_of, width_at};
+use crate::outcomes::{only_in_second, outcomes_of};
 use crate::pairs::{Pairs, SignalPair};
 use crate::request::CompareRequest;
 use crate::sized_waves::SizedWaves;
+use crate::variables::{PlannedVariable, variable_at, variables_of};
 use crate::wave_pair::Bounds;
 use std::alloc::Global;
 use vcd_core::{NoMemory, WIDTH_LIMIT};
 use vcd_text::ChangeStream;
 
-/// What is told of the signals of two captures, before any change.
+/// What is told of the variables of two captures, before any change.
 #[derive(Drop)]
 pub struct Plan {
-    /// What is told of each signal of the first capture.
+    /// What is told of each variable of the first capture.
     pub outcomes: Vec<Outcome>,
-    /// The signals of the second that were asked for, and have no partner.
+    /// The variables of the second that were asked for, and have no partner.
     pub only_in_second: Vec<usize>,
     /// The first pattern that no name meets.
     pub unmet_pattern: Option<usize>,
@@ -36,7 +40,8 @@ pub struct Plan {
 
 /// The plan of a comparison of two files, which have come to the end of their declarations.
 ///
-/// Time and memory: the names of both, of the first also what they are in the second.
+/// Time and memory: the names of both, of the first also what they are in the second, and some
+/// words for each variable.
 pub fn plan_of(
     alloc: Global,
     request: &CompareRequest<'_, '_>,
@@ -49,19 +54,19 @@ pub fn plan_of(
         IsStreamAt first.now s → IsStreamAt second.now t → HasDeclared s a → HasDeclared t b →
         IsPlanOf request.now a b plan) }
 {
-    let signals = first.signals();
-    let others = second.signals();
-    let names = names_of(alloc, &signals)?;
-    let matching = match_signals(alloc, request, names, names_of(alloc, &others)?)?;
+    let names = names_of(alloc, first)?;
+    let matching = match_signals(alloc, request, names, names_of(alloc, second)?)?;
+    let variables = variables_of(alloc, first)?;
+    let others = variables_of(alloc, second)?;
     Ok(Plan {
-        outcomes: outcomes_of(alloc, &matching, &signals, &others)?,
+        outcomes: outcomes_of(alloc, &matching, &variables, &others)?,
         only_in_second: only_in_second(alloc, &matching)?,
         unmet_pattern: matching.unmet_pattern,
         unmet_map: matching.unmet_map,
     })
 }
 
-/// The pairs of signals that are compared by these outcomes, in their order.
+/// The pairs of variables that are compared by these outcomes, in their order.
 pub fn pairs_of(
     alloc: Global,
     bounds: Bounds,
@@ -76,45 +81,83 @@ pub fn pairs_of(
         ≡ compared_positions (length outcomes.now) outcomes.now) }
     ensures pairs { IfOk result (λ pairs. (s t : ParseState) →
         IsStreamAt first.now s → IsStreamAt second.now t →
-        AllComparable (kept_variables s.declared) (kept_variables t.declared) outcomes.now →
-        ArePairsOf bounds (kept_variables s.declared) (kept_variables t.declared) pairs) }
+        AllComparable s.declared t.declared outcomes.now →
+        ArePairsOf bounds s.declared t.declared pairs) }
 {
-    let mut pairs = Pairs::new(alloc, bounds, first.signals().len(), second.signals().len())?;
+    let variables = variables_of(alloc, first)?;
+    let others = variables_of(alloc, second)?;
+    let pairs = planned_pairs(alloc, bounds, outcomes, &variables, &others)?;
+    Ok(pairs)
+}
+
+/// The same of captures with these variables.
+fn planned_pairs(
+    alloc: Global,
+    bounds: Bounds,
+    outcomes: &[Outcome],
+    variables: &[PlannedVariable],
+    others: &[PlannedVariable],
+) -> Result<Pairs, NoMemory>
+    ensures bounds { IfOk result (λ pairs. pairs.bounds ≡ bounds) }
+    ensures positions { IfOk result (λ pairs. map pair_positions pairs.all.items
+        ≡ compared_positions (length outcomes.now) outcomes.now) }
+    ensures pairs { IfOk result (λ pairs. (ds es : List VariableDeclaration) →
+        variables.now ≡ planned_variables ds → others.now ≡ planned_variables es →
+        AllComparable ds es outcomes.now → ArePairsOf bounds ds es pairs) }
+{
+    let mut pairs = Pairs::new(alloc, bounds, variables.len(), others.len())?;
     for position in 0..outcomes.len() {
         if let Outcome::Compared(partner) = outcomes[position] {
-            let pair = pair_of(alloc, bounds, first, second, (position, partner))?;
+            let pair = pair_of(alloc, bounds, variables, others, (position, partner))?;
             pairs.push(pair)?;
         }
     }
     Ok(pairs)
 }
 
-/// The two signals at these positions, at the first tick of the window, all x.
+/// The two variables at these positions, at the first tick of the window.
 fn pair_of(
     alloc: Global,
     bounds: Bounds,
-    first: &ChangeStream,
-    second: &ChangeStream,
+    variables: &[PlannedVariable],
+    others: &[PlannedVariable],
     positions: (usize, usize),
 ) -> Result<SignalPair, NoMemory>
-    requires first_at { (s : ParseState) × IsStreamAt first.now s }
-    requires second_at { (t : ParseState) × IsStreamAt second.now t }
     ensures first { IfOk result (λ pair. pair.first ≡ positions.0) }
     ensures second { IfOk result (λ pair. pair.second ≡ positions.1) }
-    ensures planned { IfOk result (λ pair. (s t : ParseState) →
-        IsStreamAt first.now s → IsStreamAt second.now t →
-        AreComparable (kept_variables s.declared) (kept_variables t.declared) positions.0
-        positions.1 →
-        IsPlannedPair bounds (kept_variables s.declared) (kept_variables t.declared) pair) }
+    ensures planned { IfOk result (λ pair. (ds es : List VariableDeclaration) →
+        variables.now ≡ planned_variables ds → others.now ≡ planned_variables es →
+        AreComparable ds es positions.0 positions.1 → IsPlannedPair bounds ds es pair) }
 {
     let (position, partner) = positions;
-    let width = width_at(&first.signals(), position).max(1).min(WIDTH_LIMIT);
+    let own = variable_at(variables, position);
+    let other = variable_at(others, partner);
+    let width = own.width.max(1).min(WIDTH_LIMIT);
+    let waves = first_waves(alloc, bounds, own.is_signal, width)?;
     Ok(SignalPair {
         first: position,
         second: partner,
-        first_variable: first.first_of(position),
-        second_variable: second.first_of(partner),
+        first_variable: own.first,
+        second_variable: other.first,
         width,
-        waves: SizedWaves::new(alloc, bounds, width)?,
+        waves,
     })
+}
+
+/// Two waves at the first tick of the window: of signals all x, of other variables without a word.
+fn first_waves(
+    alloc: Global,
+    bounds: Bounds,
+    is_signal: bool,
+    width: u64,
+) -> Result<SizedWaves, NoMemory>
+    requires least { 1 ≤ width }
+    requires most { width ≤ LIMIT }
+    ensures sized { IfOk result (IsSized width) }
+    ensures begun { IfOk result (λ made. AreFirstWaves bounds is_signal width (waves_in made)) }
+{
+    if is_signal {
+        return SizedWaves::new(alloc, bounds, width);
+    }
+    SizedWaves::of_words(alloc, bounds)
 }

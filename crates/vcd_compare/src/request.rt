@@ -9,7 +9,7 @@ pub struct NameMap<'a> {
     pub new: &'a [u8],
 }
 
-/// What is compared: some of the signals, at some ticks. Ticks are those of the finer timescale.
+/// What is compared: some of the variables, at some ticks. Ticks are those of the finer timescale.
 #[derive(Clone, Copy)]
 pub struct CompareRequest<'m, 'a> {
     /// Patterns of the full names that are compared; without one, all are.

@@ -1,11 +1,14 @@
 //! The shortest run of a wave: how far apart its edges are at least.
 
-ghost use Rattle.std.specs.Prelude.{◌≡◌, ℕ, ◌<◌, ◌≤◌, ◌+◌, IsTrue, Some};
+ghost use Rattle.std.specs.Prelude.{◌≡◌, ℕ, ◌<◌, ◌≤◌, ◌+◌, Some, OnOk};
 ghost use Rattle.vcd_compare.specs.Differences.{WaveByTicks, ticks_between};
 ghost use Rattle.vcd_compare.specs.ShortestRun.{shortest_run};
 ghost use Rattle.vcd_compare.specs.ShortestRun as spec;
 ghost use Rattle.vcd_compare.specs.inside.WaveComparison.{KeepsUntil};
 ghost use Rattle.vcd_compare.specs.inside.ShortestRun.{HasSeenRuns, shortest_after};
+
+use crate::compared_value::ComparedValue;
+use vcd_core::NoMemory;
 
 /// The shortest run of a wave, up to a tick.
 #[derive(Drop)]
@@ -18,7 +21,7 @@ pub struct ShortestRun<V> {
     shortest: Option<u64>,
 }
 
-impl<V: PartialEq + Drop> ShortestRun<V> {
+impl<V: ComparedValue> ShortestRun<V> {
     /// The wave at the first tick of the window, at which it has this value.
     pub fn new(value: V) -> ShortestRun<V>
         ensures { (wave : WaveByTicks V) (first : ℕ) → value ≡ wave first →
@@ -33,16 +36,18 @@ impl<V: PartialEq + Drop> ShortestRun<V> {
 
     /// Goes on to a later tick, at which the wave has this value. It had the same as before up to
     /// that tick.
-    pub fn change(&mut self, tick: u64, value: V)
-        ensures { (wave : WaveByTicks V) (first t : ℕ) → ((v : V) → IsTrue (V.eq v v)) →
+    pub fn change(&mut self, tick: u64, value: &V) -> Result<(), NoMemory>
+        ensures { OnOk result ((wave : WaveByTicks V) (first t : ℕ) →
             t < tick → HasSeenRuns V.eq wave first t self.old →
-            KeepsUntil wave t tick → value ≡ wave tick →
-            HasSeenRuns V.eq wave first tick self.new }
+            KeepsUntil wave t tick → value.now ≡ wave tick →
+            HasSeenRuns V.eq wave first tick self.new) }
     {
-        if self.value != value {
-            self.turn(tick);
+        if self.value == *value {
+            return Ok(());
         }
-        self.value = value;
+        self.turn(tick);
+        self.value = value.copied()?;
+        Ok(())
     }
 
     /// Turns to another value at a tick.
@@ -61,8 +66,8 @@ impl<V: PartialEq + Drop> ShortestRun<V> {
     /// How many ticks the shortest run has, if the wave keeps its value up to `last`, the last tick
     /// of the window. None, if no run is whole in it.
     pub fn finish(self, last: u64) -> Option<u64>
-        ensures { (wave : WaveByTicks V) (first t : ℕ) → ((v : V) → IsTrue (V.eq v v)) →
-            t ≤ last → HasSeenRuns V.eq wave first t self → KeepsUntil wave t (last + 1) →
+        ensures { (wave : WaveByTicks V) (first t : ℕ) → t ≤ last →
+            HasSeenRuns V.eq wave first t self → KeepsUntil wave t (last + 1) →
             result ≡ shortest_run V.eq wave (ticks_between first last) }
     {
         self.shortest

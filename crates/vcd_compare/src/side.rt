@@ -12,6 +12,8 @@ ghost use Rattle.vcd_compare.specs.inside.Side.{IsSideAt, ReadsOn, ReadsToEnd, I
 ghost use Rattle.vcd_compare.specs.inside.Side.{reads_to_come, first_tick};
 ghost use Rattle.vcd_compare.specs.inside.Side as spec;
 
+use crate::last_ticks::LastTicks;
+use crate::left_out::{LeftOut, count_left_out};
 use std::alloc::Global;
 use vcd_core::Source;
 use vcd_text::{ChangeStream, ReadError};
@@ -26,6 +28,10 @@ pub struct Side {
     pub is_ended: bool,
     /// How many ticks of the comparison a tick of the file has.
     pub factor: u64,
+    /// What is left out of what was read so far.
+    pub left_out: LeftOut,
+    /// The last ticks of its variables.
+    pub last_ticks: LastTicks,
 }
 
 impl Side {
@@ -45,6 +51,8 @@ impl Side {
             taken,
             is_ended: false,
             factor: 1,
+            left_out: LeftOut::nothing(),
+            last_ticks: LastTicks::new(alloc),
         };
         side.reach_change(alloc, source)?;
         Ok(side)
@@ -114,7 +122,8 @@ impl Side {
         Ok(())
     }
 
-    /// Reads a chunk, or finds the end of the file. The changes at hand are forgotten.
+    /// Reads a chunk, or finds the end of the file. The changes at hand are forgotten, and those of
+    /// the chunk are counted.
     fn read_chunk<R: Source>(&mut self, alloc: Global, source: &mut R) -> Result<(), ReadError>
         requires ready { R.has_failed source.old ≡ false }
         requires goes_on { self.old.is_ended ≡ false }
@@ -137,6 +146,8 @@ impl Side {
     {
         self.is_ended = !self.stream.read_more(alloc, source)?;
         self.taken = 0;
+        let heard = self.stream.heard();
+        count_left_out(&mut self.left_out, &mut self.last_ticks, heard)?;
         Ok(())
     }
 

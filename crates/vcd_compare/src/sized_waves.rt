@@ -1,70 +1,89 @@
 //! Two waves that are compared, in the room that their values need.
 
-ghost use Rattle.std.specs.Prelude.{◌≡◌, ◌≤◌, ◌<◌, ◌-◌, ◌^◌, List, Some, IfOk};
-ghost use Rattle.vcd_core.specs.declared.bit.Bit.{Bit as Letter};
-ghost use Rattle.vcd_core.specs.Value as values;
+ghost use Rattle.std.specs.Prelude.{ℕ, ◌≤◌, ◌<◌, ◌-◌, ◌^◌, true, false, IfOk, OnOk};
 ghost use Rattle.vcd_core.specs.declared.value.TheConstants.{WIDTH_LIMIT};
-ghost use Rattle.vcd_text.specs.Letters as letters;
-ghost use Rattle.vcd_compare.specs.inside.Pairs.{HasChanged, AreToldOf};
+ghost use Rattle.vcd_compare.specs.inside.Pairs.{HasText, AreToldOfWaves};
+ghost use Rattle.vcd_compare.specs.inside.Planning.{AreFirstWaves};
 ghost use Rattle.vcd_compare.specs.inside.SizedWaves.{waves_in, IsSized};
 
 use crate::narrow_value::NarrowValue;
 use crate::pairs::VariableChange;
 use crate::told_differences::ToldDifferences;
 use crate::wave_pair::{Bounds, WavePair};
+use crate::word_value::WordValue;
 use std::alloc::Global;
 use vcd_core::{Bit, NoMemory, Value};
 use vcd_text::value_of_digits;
 
-/// Two waves of one width.
+/// Two waves of letters of one width, or of words.
 #[derive(Drop)]
 pub enum SizedWaves {
-    /// Of at most 64 bits.
+    /// Of at most 64 letters.
     Narrow(Box<WavePair<NarrowValue>>),
-    /// Of any width.
+    /// Of letters of any width.
     Wide(Box<WavePair<Value>>),
+    /// Of words.
+    Words(Box<WavePair<WordValue>>),
 }
 
 impl SizedWaves {
-    /// Two waves at the first tick of the window, all x.
+    /// Two waves of letters at the first tick of the window, all x.
     pub fn new(alloc: Global, bounds: Bounds, width: u64) -> Result<SizedWaves, NoMemory>
         requires least { 1 ≤ width }
         requires most { width ≤ WIDTH_LIMIT }
         ensures sized { IfOk result (IsSized width) }
-        ensures tick { IfOk result (λ made. (waves_in made).tick ≡ bounds.first) }
-        ensures a { IfOk result (λ made. (waves_in made).a ≡ values.all_x width) }
-        ensures b { IfOk result (λ made. (waves_in made).b ≡ values.all_x width) }
+        ensures begun { IfOk result (λ made. AreFirstWaves bounds true width (waves_in made)) }
     {
         if width <= 64 {
             let x = NarrowValue::all_x(width);
-            let waves = Box::new(alloc, WavePair::new(bounds, x, x))?;
+            let waves = Box::new(alloc, WavePair::new(bounds, x, x)?)?;
             return Ok(SizedWaves::Narrow(waves));
         }
         let x = Value::filled(width, Bit::X);
-        let waves = Box::new(alloc, WavePair::new(bounds, x, x))?;
+        let waves = Box::new(alloc, WavePair::new(bounds, x, x)?)?;
         Ok(SizedWaves::Wide(waves))
     }
 
-    /// One of the waves has from a tick on the value that digits write.
-    pub fn change(&mut self, bounds: Bounds, width: u64, change: &VariableChange<'_>)
-        requires least { 1 ≤ width }
-        requires sized { IsSized width self.old }
+    /// Two waves of words at the first tick of the window, both empty.
+    pub fn of_words(alloc: Global, bounds: Bounds) -> Result<SizedWaves, NoMemory>
+        ensures sized { IfOk result (λ made. (width : ℕ) → IsSized width made) }
+        ensures begun { IfOk result (λ made. AreFirstWaves bounds false 1 (waves_in made)) }
+    {
+        let waves = WavePair::new(bounds, WordValue::empty(alloc), WordValue::empty(alloc))?;
+        Ok(SizedWaves::Words(Box::new(alloc, waves)?))
+    }
+
+    /// One of the waves has from a tick on the value that a text writes, or the text itself.
+    pub fn change(
+        &mut self,
+        bounds: Bounds,
+        width: u64,
+        change: &VariableChange<'_>,
+    ) -> Result<(), NoMemory>
+        requires { IsSized width self.old }
         ensures sized { IsSized width self.new }
-        ensures changed { (value : List Letter) →
-            letters.value_of_digits width change.now.digits.now ≡ Some value →
-            HasChanged bounds change.now.which change.now.tick value (waves_in self.old)
-            (waves_in self.new) }
+        ensures changed { OnOk result (HasText width bounds change.now.which change.now.tick
+            change.now.text.now (waves_in self.old) (waves_in self.new)) }
     {
         match self {
             SizedWaves::Narrow(waves) => {
-                if let Some(value) = NarrowValue::of_digits(width, change.digits) {
-                    waves.change(bounds, change.which, change.tick, value);
-                }
+                let Some(value) = NarrowValue::of_digits(width, change.text) else {
+                    return Ok(());
+                };
+                waves.change(bounds, change.which, change.tick, value)?;
+                Ok(())
             }
             SizedWaves::Wide(waves) => {
-                if let Some(value) = value_of_digits(width, change.digits) {
-                    waves.change(bounds, change.which, change.tick, value);
-                }
+                let Some(value) = value_of_digits(width, change.text) else {
+                    return Ok(());
+                };
+                waves.change(bounds, change.which, change.tick, value)?;
+                Ok(())
+            }
+            SizedWaves::Words(waves) => {
+                let word = waves.a.with_bytes(change.text)?;
+                waves.change(bounds, change.which, change.tick, word)?;
+                Ok(())
             }
         }
     }
@@ -77,17 +96,22 @@ impl SizedWaves {
         last: u64,
     ) -> Result<(ToldDifferences, Option<u64>), NoMemory>
         ensures { last < 2 ^ 64 - 1 →
-            IfOk result (λ told. AreToldOf bounds last (waves_in self) told.0 told.1) }
+            IfOk result (λ told. AreToldOfWaves bounds last (waves_in self) told.0 told.1) }
     {
         match self {
             SizedWaves::Narrow(waves) => {
-                let found = Box::into_inner(waves).finish(bounds, last);
+                let found = Box::into_inner(waves).finish(bounds, last)?;
                 let differences = ToldDifferences::narrow(alloc, found.differences)?;
                 Ok((differences, found.short_run))
             }
             SizedWaves::Wide(waves) => {
-                let found = Box::into_inner(waves).finish(bounds, last);
+                let found = Box::into_inner(waves).finish(bounds, last)?;
                 let differences = ToldDifferences::wide(alloc, found.differences)?;
+                Ok((differences, found.short_run))
+            }
+            SizedWaves::Words(waves) => {
+                let found = Box::into_inner(waves).finish(bounds, last)?;
+                let differences = ToldDifferences::words(alloc, found.differences)?;
                 Ok((differences, found.short_run))
             }
         }

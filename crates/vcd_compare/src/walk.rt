@@ -2,27 +2,32 @@
 
 ghost use Rattle.std.specs.Prelude.{◌≡◌, ◌≢◌, ◌⊎◌, ◌+◌, ◌<◌, ◌∷◌, ℕ, true, false, Bool, List};
 ghost use Rattle.std.specs.Prelude.{length, Option, Some, None, IfOk, IfErr, IfSome, IfNone, OnOk};
+ghost use Rattle.std.specs.Prelude.{slice_get};
 ghost use Rattle.vcd_core.specs.declared.capture.TheConstants.{SIGNAL_LIMIT};
-ghost use Rattle.vcd_text.specs.Grammar.{ParseState};
-ghost use Rattle.vcd_text.specs.HeardChanges.{HeardChange};
+ghost use Rattle.vcd_text.specs.Grammar.{ParseState, VariableDeclaration, kept_variables};
+ghost use Rattle.vcd_text.specs.HeardChanges.{HeardChange, skipped_variables};
+ghost use Rattle.vcd_text.specs.inside.reading.ChangeStream.{IsStreamAt};
+ghost use Rattle.vcd_text.specs.inside.reading.SkippedVariables.{listed_variables};
 ghost use Rattle.vcd_text.specs.Refusals.{IsRefusal};
 ghost use Rattle.vcd_text.specs.declared.reading.TheConstants.{LONG_FILE_LIMIT};
+ghost use Rattle.vcd_compare.specs.Variables.{word_of};
 ghost use Rattle.vcd_compare.specs.inside.Pairs.{chosen};
 ghost use Rattle.vcd_compare.specs.inside.Side.{IsSideAt, at_hand, reads_to_come, needs_chunk};
 ghost use Rattle.vcd_compare.specs.inside.WalkSteps.{IsWalkStart, IsWalkAt, IsWalkOver, IsLast};
 ghost use Rattle.vcd_compare.specs.inside.WalkSteps.{IsNextChange, HasWalked, FailsWith, AreGiven};
-ghost use Rattle.vcd_compare.specs.inside.WalkSteps.{earlier_tick};
+ghost use Rattle.vcd_compare.specs.inside.WalkSteps.{IsGiven, declares_event, earlier_tick};
 ghost use Rattle.vcd_compare.specs.declared.walk.Walk.{Walk as WalkBefore};
 ghost use Rattle.vcd_compare.specs.declared.comparison.CompareError.TheVariants as errors;
 
 use crate::comparison::CompareError;
 use crate::pairs::{Pairs, VariableChange, Which};
 use crate::side::Side;
+use itoa::Buffer;
 use std::alloc::Global;
-use vcd_core::Source;
-use vcd_text::{ChangeTarget, Fault, ReadError};
+use vcd_core::{NoMemory, Source};
+use vcd_text::{ChangeStream, ChangeTarget, Fault, ReadError, SkippedVariable};
 
-/// Two files that are read side by side, and the pairs of their signals.
+/// Two files that are read side by side, and the pairs of their variables.
 #[derive(Drop)]
 pub struct Walk {
     pub first: Side,
@@ -54,7 +59,7 @@ impl Walk {
             FailsWith coming other (A.coming first.new) (A.has_failed first.new)
             (B.coming second.new) (B.has_failed second.new) e) }
     {
-        while self.take_changes(most) {
+        while self.take_changes(most)? {
             self.reach_changes(alloc, first, second)?;
         }
         self.read_rests(alloc, first, second)?;
@@ -139,23 +144,26 @@ impl Walk {
 
     /// Gives the pairs the changes at hand, in the order of ticks. Returns true if a file has to be
     /// read before the next one, and false if no other is to be given.
-    fn take_changes(&mut self, most: u64) -> bool
-        ensures at { (coming other left other_left : Option (List ℕ)) (s t : ParseState)
-            (start : WalkBefore) →
+    fn take_changes(&mut self, most: u64) -> Result<bool, NoMemory>
+        requires first_at { (s : ParseState) × IsStreamAt self.old.first.stream s }
+        requires second_at { (t : ParseState) × IsStreamAt self.old.second.stream t }
+        ensures at { OnOk result ((coming other left other_left : Option (List ℕ))
+            (s t : ParseState) (start : WalkBefore) →
             IsWalkAt most coming other left other_left s t start self.old →
-            IsWalkAt most coming other left other_left s t start self.new }
-        ensures first { self.new.first ≡ record self.old.first { taken = self.new.first.taken } }
-        ensures second { self.new.second
-            ≡ record self.old.second { taken = self.new.second.taken } }
-        ensures more { result ≡ true → (needs_chunk self.new.first ≡ true)
-            ⊎ (needs_chunk self.new.second ≡ true) }
-        ensures over { result ≡ false → IsWalkOver most self.new }
+            IsWalkAt most coming other left other_left s t start self.new) }
+        ensures first { OnOk result
+            (self.new.first ≡ record self.old.first { taken = self.new.first.taken }) }
+        ensures second { OnOk result
+            (self.new.second ≡ record self.old.second { taken = self.new.second.taken }) }
+        ensures more { IfOk result (λ more. more ≡ true → (needs_chunk self.new.first ≡ true)
+            ⊎ (needs_chunk self.new.second ≡ true)) }
+        ensures over { IfOk result (λ more. more ≡ false → IsWalkOver most self.new) }
     {
         let last = self.last(most);
         while let Some((which, tick)) = self.next(last) {
-            self.take(which, tick);
+            self.take(which, tick)?;
         }
-        self.needs_chunk()
+        Ok(self.needs_chunk())
     }
 
     /// Whether a file has to be read before the next change.
@@ -200,29 +208,33 @@ impl Walk {
     }
 
     /// Gives the pairs the change at hand of a file, which has this tick.
-    fn take(&mut self, which: Which, tick: u64)
-        ensures at { (coming other left other_left : Option (List ℕ)) (s t : ParseState)
-            (start : WalkBefore) (most : ℕ) →
+    fn take(&mut self, which: Which, tick: u64) -> Result<(), NoMemory>
+        requires first_at { (s : ParseState) × IsStreamAt self.old.first.stream s }
+        requires second_at { (t : ParseState) × IsStreamAt self.old.second.stream t }
+        ensures at { OnOk result ((coming other left other_left : Option (List ℕ))
+            (s t : ParseState) (start : WalkBefore) (most : ℕ) →
             IsWalkAt most coming other left other_left s t start self.old →
             IsNextChange most which tick self.old →
-            IsWalkAt most coming other left other_left s t start self.new }
-        ensures first { self.new.first ≡ record self.old.first { taken = self.new.first.taken } }
-        ensures second { self.new.second
-            ≡ record self.old.second { taken = self.new.second.taken } }
-        ensures fewer { (most : ℕ) → IsNextChange most which tick self.old →
+            IsWalkAt most coming other left other_left s t start self.new) }
+        ensures first { OnOk result
+            (self.new.first ≡ record self.old.first { taken = self.new.first.taken }) }
+        ensures second { OnOk result
+            (self.new.second ≡ record self.old.second { taken = self.new.second.taken }) }
+        ensures fewer { OnOk result ((most : ℕ) → IsNextChange most which tick self.old →
             length (at_hand self.new.first) + length (at_hand self.new.second)
-            < length (at_hand self.old.first) + length (at_hand self.old.second) }
+            < length (at_hand self.old.first) + length (at_hand self.old.second)) }
     {
         match which {
             Which::First => {
-                give_change(&self.first, &mut self.pairs, which, tick);
+                give_change(&self.first, &mut self.pairs, which, tick)?;
                 self.first.take();
             }
             Which::Second => {
-                give_change(&self.second, &mut self.pairs, which, tick);
+                give_change(&self.second, &mut self.pairs, which, tick)?;
                 self.second.take();
             }
         }
+        Ok(())
     }
 }
 
@@ -244,28 +256,65 @@ fn earlier(first: Option<u128>, second: Option<u128>) -> Option<(Which, u128)>
 }
 
 /// Gives the pairs the change at hand of a file.
-fn give_change(side: &Side, pairs: &mut Pairs, which: Which, tick: u64)
-    ensures { (h : HeardChange) (rest : List HeardChange) → at_hand side.now ≡ h ∷ rest →
-        AreGiven which tick h pairs.old pairs.new }
+fn give_change(side: &Side, pairs: &mut Pairs, which: Which, tick: u64) -> Result<(), NoMemory>
+    requires { (s : ParseState) × IsStreamAt side.now.stream s }
+    ensures { OnOk result ((s : ParseState) (h : HeardChange) (rest : List HeardChange) →
+        IsStreamAt side.now.stream s → at_hand side.now ≡ h ∷ rest →
+        IsGiven s which tick h pairs.old pairs.new) }
 {
     let heard = side.stream.heard();
     if heard.len() <= side.taken {
-        return;
+        return Ok(());
     }
     let change = heard.get(side.taken);
+    let text = change.text;
+    let variable_change = VariableChange { which, tick, text };
     match change.target {
-        ChangeTarget::Kept(variable) => {
-            let digits = change.text;
-            pairs.change(
-                variable,
-                &VariableChange {
-                    which,
-                    tick,
-                    digits,
-                },
-            );
+        ChangeTarget::Kept(variable) => pairs.change(variable, &variable_change)?,
+        ChangeTarget::Skipped(position) => {
+            give_word(&side.stream, pairs, position, &variable_change)?
         }
-        ChangeTarget::Skipped(_) => {}
+    }
+    Ok(())
+}
+
+/// Gives the pairs a change of the first skipped variable of a code, by its position: the text, or
+/// of an event the tick.
+#[inline(never)]
+fn give_word(
+    stream: &ChangeStream,
+    pairs: &mut Pairs,
+    position: usize,
+    change: &VariableChange<'_>,
+) -> Result<(), NoMemory>
+    requires { (s : ParseState) × IsStreamAt stream.now s }
+    ensures { OnOk result ((s : ParseState) → IsStreamAt stream.now s →
+        AreGiven change.now.which (length (kept_variables s.declared) + position) change.now.tick
+        (word_of (declares_event (slice_get (skipped_variables s.declared) position))
+        change.now.tick change.now.text.now) pairs.old pairs.new) }
+{
+    // Memory has no room for more variables than a `usize` counts.
+    let Some(variable) = stream.signals().len().checked_add(position) else {
+        return Err(NoMemory);
+    };
+    if !is_event(stream.skipped_variables(), position) {
+        return pairs.change(variable, change);
+    }
+    let which = change.which;
+    let tick = change.tick;
+    let mut buffer = Buffer::new();
+    let text = buffer.format(tick).as_bytes();
+    pairs.change(variable, &VariableChange { which, tick, text })
+}
+
+/// Whether the skipped variable at a position is an event.
+fn is_event(skipped: &[SkippedVariable], position: usize) -> bool
+    ensures { (all : List VariableDeclaration) → skipped.now ≡ listed_variables all →
+        result ≡ declares_event (slice_get all position) }
+{
+    match skipped.get(position) {
+        Some(variable) => variable.kind.as_slice() == b"event".as_slice(),
+        None => false,
     }
 }
 

@@ -1,12 +1,14 @@
 //! The comparison of two waves, change by change.
 
-ghost use Rattle.std.specs.Prelude.{◌≡◌, ℕ, ◌-◌, ◌+◌, ◌<◌, ◌≤◌, ◌^◌, ◌++◌, List, length};
+ghost use Rattle.std.specs.Prelude.{◌≡◌, ℕ, ◌-◌, ◌+◌, ◌<◌, ◌≤◌, ◌^◌, ◌++◌, List, length, OnOk};
 ghost use Rattle.vcd_compare.specs.Differences.{WaveByTicks, compared, ticks_between, summary};
 ghost use Rattle.vcd_compare.specs.inside.WaveComparison.{HasCompared, KeepsUntil, standing_end};
 ghost use Rattle.vcd_compare.specs.inside.WaveComparison as spec;
 ghost use Rattle.vcd_compare.specs.declared.differences.Difference.{Difference as DifferenceTold};
 
+use crate::compared_value::ComparedValue;
 use crate::differences::{Difference, Differences};
+use vcd_core::NoMemory;
 use vcd_text::TickRange;
 
 /// A difference that has begun.
@@ -34,7 +36,7 @@ pub struct WaveComparison<V> {
     found: Differences<V>,
 }
 
-impl<V: PartialEq + Drop> WaveComparison<V> {
+impl<V: ComparedValue> WaveComparison<V> {
     /// The comparison at the first tick of the window, at which the waves have these values.
     pub fn new(tolerance: u64, first: u64, a: V, b: V) -> WaveComparison<V>
         ensures { (wave other : WaveByTicks V) → a ≡ wave first → b ≡ other first →
@@ -56,19 +58,22 @@ impl<V: PartialEq + Drop> WaveComparison<V> {
 
     /// Goes on to a later tick, at which the waves have these values. They had the same as before
     /// up to that tick. It takes a constant number of steps.
-    pub fn change(&mut self, tick: u64, a: V, b: V)
-        ensures { (tolerance : ℕ) (wave other : WaveByTicks V) (first t : ℕ) → t < tick →
-            HasCompared V.eq tolerance wave other first t self.old →
+    pub fn change(&mut self, tick: u64, a: &V, b: &V) -> Result<(), NoMemory>
+        ensures { OnOk result ((tolerance : ℕ) (wave other : WaveByTicks V) (first t : ℕ) →
+            t < tick → HasCompared V.eq tolerance wave other first t self.old →
             KeepsUntil wave t tick → KeepsUntil other t tick →
-            a ≡ wave tick → b ≡ other tick →
-            HasCompared V.eq tolerance wave other first tick self.new }
+            a.now ≡ wave tick → b.now ≡ other tick →
+            HasCompared V.eq tolerance wave other first tick self.new) }
     {
-        if a == b {
-            self.end_difference(tick, &a);
-            self.value = Some(a);
-        } else if self.open_difference.is_none() {
-            self.begin_difference(tick, a, b);
+        if *a == *b {
+            self.end_difference(tick, a);
+            self.value = Some(a.copied()?);
+            return Ok(());
         }
+        if self.open_difference.is_none() {
+            self.begin_difference(tick, a.copied()?, b.copied()?);
+        }
+        Ok(())
     }
 
     /// Begins a difference at a tick, at which the waves have these values.

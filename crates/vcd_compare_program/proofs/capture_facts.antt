@@ -1,3 +1,2 @@
 -- Lemmas of `capture_facts`.
-pub mod NameCounts
-pub mod ShownSignals
+pub mod DeclaredVariables

@@ -1,57 +1,62 @@
 -- What the report of a comparison shows of a capture: its path, what it declares, and its end. The
 -- form of names is the project's own.
-use Rattle.std.specs.Prelude.{ℕ, ◌+◌, ◌*◌, ◌==◌, List, [], ◌++◌, map, length, Option, Some, None}
-use Rattle.std.specs.Prelude.{if◌then◌else◌, codes, decimal, slice_get}
-use Rattle.std.specs.List.{range_with_len}
+use Rattle.std.specs.Prelude.{ℕ, ◌+◌, ◌*◌, ◌==◌, List, [], ◌∷◌, ◌++◌, map, count_by, bytes_eq}
+use Rattle.std.specs.Prelude.{Bool, true, false, Option, if◌then◌else◌, codes, decimal}
 use Rattle.vcd_core.specs.declared.capture.Timescale.{Timescale}
 use Rattle.vcd_core.specs.Contents.{Contents, SignalContents}
-use Rattle.vcd_core.specs.Names.{full_name, full_names}
+use Rattle.vcd_core.specs.Names.{full_name}
 use Rattle.vcd_shell.specs.Shown.{shown}
-use Rattle.vcd_compare.specs.Pairs.{namesakes_before}
+use Rattle.vcd_compare.specs.declared.left_out.LeftOut.{LeftOut}
 
--- a signal: its name as it is shown, its kind and its width
-pub record SignalFacts : Type 0 where
+-- a variable: its name, its kind and its width, which is 0 if its kind has no letters
+pub record VariableFacts : Type 0 where
   pub name : List ℕ
   pub kind : List ℕ
   pub width : ℕ
 
--- the end is in ticks of the comparison; skipped are the variables that are left out
+-- the end is in ticks of the comparison; what is left out is there if it is told
 pub record CaptureFacts : Type 0 where
   pub path : List ℕ
-  pub signals : List SignalFacts
+  pub variables : List VariableFacts
   pub timescale : Option Timescale
   pub end : ℕ
-  pub skipped : ℕ
+  pub left_out : LeftOut
 
--- of several signals with one name the second is shown as `NAME (2)`, and so on
+-- a position without a variable
+abbrev pub no_facts : VariableFacts
+no_facts = record { name = []; kind = []; width = 0 }
+
+-- a variable with its full name, as it is declared
+abbrev pub facts_declared : SignalContents → VariableFacts
+facts_declared s = record { name = full_name s; kind = s.kind; width = s.width }
+
+-- of several variables with one name the second is shown as `NAME (2)`, and so on
 abbrev pub turn_text : (namesakes : ℕ) → List ℕ
 turn_text namesakes =
     if namesakes == 0 then [] else codes " (" ++ decimal (namesakes + 1) ++ codes ")"
 
--- a position without a signal
-abbrev pub no_signal : SignalFacts
-no_signal = record { name = []; kind = []; width = 0 }
+-- a variable as it is shown, after others with these full names
+abbrev pub shown_after : (names : List (List ℕ)) → VariableFacts → VariableFacts
+shown_after names v =
+    record v { name = shown v.name ++ turn_text (count_by (bytes_eq v.name) names) }
 
--- the signal at a position, of signals with these full names
-abbrev pub signal_facts : (names : List (List ℕ)) → (k : ℕ) → Option SignalContents → SignalFacts
-signal_facts names k None = no_signal
-signal_facts names k (Some s) = record {
-  name = shown (full_name s) ++ turn_text (namesakes_before names k);
-  kind = s.kind;
-  width = s.width;
-}
+-- variables as they are shown, in their order, after others with these full names
+abbrev pub all_shown : (names : List (List ℕ)) → List VariableFacts → List VariableFacts
+all_shown names [] = []
+all_shown names (v ∷ vs) = shown_after names v ∷ all_shown (names ++ v.name ∷ []) vs
 
--- the signals of a capture
-abbrev pub signals_facts : List SignalContents → List SignalFacts
-signals_facts signals = map (λ k. signal_facts (full_names signals) k (slice_get signals k))
-    (range_with_len 0 (length signals))
+-- what is told of what is left out: nothing without `--strict`
+abbrev pub left_out_told : (is_strict : Bool) → LeftOut → LeftOut
+left_out_told true left_out = left_out
+left_out_told false left_out = record { replaced = 0 }
 
 -- a capture at a path, a tick of which has `factor` ticks of the comparison
-abbrev pub capture_facts : (path : List ℕ) → Contents → (factor skipped : ℕ) → CaptureFacts
-capture_facts path c factor skipped = record {
+abbrev pub capture_facts : (path : List ℕ) → Contents → (factor : ℕ) → (told : LeftOut)
+    → CaptureFacts
+capture_facts path c factor told = record {
   path = shown path;
-  signals = signals_facts c.signals;
+  variables = all_shown [] (map facts_declared c.signals);
   timescale = c.timescale;
   end = c.end * factor;
-  skipped = skipped;
+  left_out = told;
 }

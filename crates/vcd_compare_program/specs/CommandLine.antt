@@ -12,7 +12,7 @@ use Rattle.vcd_compare_program.specs.declared.command_line.Options.{Options}
 abbrev pub capture_argument : Text → Rule
 capture_argument name = record (new_rule name) { value_names = 1; required = true }
 
--- with the captures, and which of their signals are compared
+-- with the captures, and which of their variables are compared
 abbrev pub with_captures : App → App
 with_captures app = with_rule (with_rule (with_rule
     (with_rule app (capture_argument (codes "first"))) (capture_argument (codes "second")))

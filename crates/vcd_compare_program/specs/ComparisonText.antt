@@ -2,7 +2,6 @@
 use Rattle.std.specs.Prelude.{ℕ, ◌==◌, Bool, true, false, List, [], ◌∷◌, ◌++◌, codes, decimal}
 use Rattle.std.specs.Prelude.{if◌then◌else◌, Option, Some, None, slice_get}
 use Rattle.std.specs.List.{flat_map}
-use Rattle.vcd_core.specs.declared.bit.Bit.{Bit}
 use Rattle.vcd_core.specs.declared.capture.Timescale.{Timescale}
 use Rattle.vcd_core.specs.TimeUnits.{unit_text}
 use Rattle.vcd_text.specs.Letters.{printed_letters}
@@ -11,10 +10,12 @@ use Rattle.vcd_shell.specs.Shown.{shown}
 use Rattle.vcd_compare.specs.declared.comparison.Comparison.{Comparison}
 use Rattle.vcd_compare.specs.declared.differences.Difference.{Difference}
 use Rattle.vcd_compare.specs.declared.pairs.ComparedPair.{ComparedPair}
+use Rattle.vcd_compare.specs.VariableDifferences.{VariableValue, of_letters, of_word, count_of}
+use Rattle.vcd_compare.specs.VariableDifferences.{first_of, last_of}
 use Rattle.vcd_compare_program.specs.declared.report_line.ReportLine.{ReportLine}
 use Rattle.vcd_compare_program.specs.declared.report_line.ReportLine.TheVariants as lines
-use Rattle.vcd_compare_program.specs.CaptureFacts.{CaptureFacts, SignalFacts}
-use Rattle.vcd_compare_program.specs.ReportLines.{signal_in, report_lines, difference_count}
+use Rattle.vcd_compare_program.specs.CaptureFacts.{CaptureFacts, VariableFacts}
+use Rattle.vcd_compare_program.specs.ReportLines.{facts_in, report_lines, difference_count}
 use Rattle.vcd_compare_program.specs.ReportLines.{is_whole, same_count}
 
 -- what both captures have
@@ -52,31 +53,45 @@ abbrev pub ends_text : (a b : CaptureFacts) → List ℕ
 ends_text a b = codes "end: " ++ both (decimal a.end) (decimal b.end)
     ++ codes " (compared up to the smaller)"
 
--- the line on a signal that only one capture has
+-- the line on a variable that only one capture has
 abbrev pub only_in_text : CaptureFacts → ℕ → List ℕ
-only_in_text c k = about (signal_in c k).name (codes "only in " ++ c.path)
+only_in_text c k = about (facts_in c k).name (codes "only in " ++ c.path)
 
--- the line on a signal whose partner has another kind
-abbrev pub kinds_text : SignalFacts → (kind : List ℕ) → List ℕ
+-- the line on a variable whose partner has another kind
+abbrev pub kinds_text : VariableFacts → (kind : List ℕ) → List ℕ
 kinds_text s kind = about s.name (both (shown s.kind) (shown kind))
 
--- the line on a signal whose partner has another width
-abbrev pub widths_text : SignalFacts → (width : ℕ) → List ℕ
-widths_text s width =
-    about s.name (both (counted s.width (codes "bit")) (counted width (codes "bit")))
+-- a width
+abbrev pub width_text : ℕ → List ℕ
+width_text width = if width == 0 then codes "no bits" else counted width (codes "bit")
+
+-- the line on a variable whose partner has another width
+abbrev pub widths_text : VariableFacts → (width : ℕ) → List ℕ
+widths_text s width = about s.name (both (width_text s.width) (width_text width))
+
+-- the word of a change as it is shown; before the first change there is none
+abbrev pub printed_word : List ℕ → List ℕ
+printed_word [] = codes "none"
+printed_word (c ∷ word) = shown (c ∷ word)
+
+-- a value as it is shown
+abbrev pub printed_value : VariableValue → List ℕ
+printed_value (of_letters value) = printed_letters value
+printed_value (of_word word) = printed_word word
 
 -- one of the differences that are shown, with both values at its first tick
-abbrev pub difference_text : (which : List ℕ) → Option (Difference (List Bit)) → List ℕ
+abbrev pub difference_text : (which : List ℕ) → Option (Difference VariableValue) → List ℕ
 difference_text which None = []
 difference_text which (Some d) = codes ", " ++ which ++ codes " at tick " ++ decimal d.ticks.first
-    ++ codes ": " ++ both (printed_letters d.value_in_a) (printed_letters d.value_in_b)
+    ++ codes ": " ++ both (printed_value d.value_in_a) (printed_value d.value_in_b)
 
--- the line on the waves of two signals: how many differences stand, the first and the last of them
+-- the line on the waves of two variables: how many differences stand, the first and the last of
+-- them
 abbrev pub pair_text : CaptureFacts → ComparedPair → List ℕ
-pair_text a p = (signal_in a p.first).name ++ codes ": "
-    ++ counted p.differences.count (codes "difference")
-    ++ difference_text (codes "first") p.differences.first
-    ++ difference_text (codes "last") p.differences.last
+pair_text a p = (facts_in a p.first).name ++ codes ": "
+    ++ counted (count_of p.differences) (codes "difference")
+    ++ difference_text (codes "first") (first_of p.differences)
+    ++ difference_text (codes "last") (last_of p.differences)
 
 -- the same, if there are such
 abbrev pub values_text : CaptureFacts → Option ComparedPair → List ℕ
@@ -88,9 +103,9 @@ abbrev pub run_text : Option ℕ → List ℕ
 run_text None = []
 run_text (Some n) = counted n (codes "tick")
 
--- the line on the shortest run of two signals
+-- the line on the shortest run of two variables
 abbrev pub pair_run_text : CaptureFacts → ComparedPair → List ℕ
-pair_run_text a p = (signal_in a p.first).name ++ codes ": the shortest run has "
+pair_run_text a p = (facts_in a p.first).name ++ codes ": the shortest run has "
     ++ run_text p.short_run ++ codes ", so more may be forgiven than late edges"
 
 -- the same, if there are such
@@ -98,9 +113,10 @@ abbrev pub short_run_text : CaptureFacts → Option ComparedPair → List ℕ
 short_run_text a None = []
 short_run_text a (Some p) = pair_run_text a p
 
--- what is left out of a capture
-abbrev pub skipped_text : CaptureFacts → List ℕ
-skipped_text c = c.path ++ codes ": not compared: " ++ counted c.skipped (codes "variable")
+-- the line on what is left out of a capture
+abbrev pub left_out_text : CaptureFacts → List ℕ
+left_out_text c = c.path ++ codes ": not compared: "
+    ++ counted c.left_out.replaced (codes "replaced change")
 
 -- a line but the last
 abbrev pub line_text : (a b : CaptureFacts) → Comparison → ReportLine → List ℕ
@@ -109,12 +125,12 @@ line_text a b c lines.OneTimescale = unscaled_text a b
 line_text a b c lines.OtherEnd = ends_text a b
 line_text a b c (lines.OnlyInFirst k) = only_in_text a k
 line_text a b c (lines.OnlyInSecond j) = only_in_text b j
-line_text a b c (lines.OtherKind k j) = kinds_text (signal_in a k) (signal_in b j).kind
-line_text a b c (lines.OtherWidth k j) = widths_text (signal_in a k) (signal_in b j).width
+line_text a b c (lines.OtherKind k j) = kinds_text (facts_in a k) (facts_in b j).kind
+line_text a b c (lines.OtherWidth k j) = widths_text (facts_in a k) (facts_in b j).width
 line_text a b c (lines.OtherValues place) = values_text a (slice_get c.compared.items place)
-line_text a b c lines.SkippedInFirst = skipped_text a
-line_text a b c lines.SkippedInSecond = skipped_text b
 line_text a b c (lines.ShortRun place) = short_run_text a (slice_get c.compared.items place)
+line_text a b c lines.LeftOutOfFirst = left_out_text a
+line_text a b c lines.LeftOutOfSecond = left_out_text b
 
 -- the first tick that was compared, if it is not 0
 abbrev pub window_begin : (first : ℕ) → List ℕ
@@ -135,10 +151,10 @@ abbrev pub extent_text : (is_whole : Bool) → List ℕ
 extent_text true = codes "the same: "
 extent_text false = codes "the same as far as compared: "
 
--- how many signals are the same, as far as all was compared
+-- how many variables are the same, as far as all was compared
 abbrev pub same_text : (a b : CaptureFacts) → List ComparedPair → List ℕ
 same_text a b compared =
-    extent_text (is_whole a b) ++ counted (same_count a b compared) (codes "signal")
+    extent_text (is_whole a b) ++ counted (same_count a b compared) (codes "variable")
 
 -- the last line
 abbrev pub last_line : (a b : CaptureFacts) → Comparison → List ℕ

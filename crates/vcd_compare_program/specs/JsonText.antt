@@ -3,18 +3,19 @@
 use Rattle.std.specs.Prelude.{ℕ, ◌==◌, ◌||◌, Bool, true, false, List, [], ◌∷◌, ◌++◌, codes, decimal}
 use Rattle.std.specs.Prelude.{if◌then◌else◌, Option, Some, None, slice_get}
 use Rattle.std.specs.List.{enumerate_from, flat_map}
-use Rattle.vcd_core.specs.declared.bit.Bit.{Bit}
 use Rattle.vcd_text.specs.Letters.{printed_letters}
 use Rattle.vcd_text.specs.declared.reading.choice.TickRange.{TickRange}
 use Rattle.vcd_shell.specs.Shown.{shown}
 use Rattle.vcd_compare.specs.declared.comparison.Comparison.{Comparison}
 use Rattle.vcd_compare.specs.declared.differences.Difference.{Difference}
-use Rattle.vcd_compare.specs.declared.differences.Differences.{Differences}
+use Rattle.vcd_compare.specs.declared.left_out.LeftOut.{LeftOut}
 use Rattle.vcd_compare.specs.declared.pairs.ComparedPair.{ComparedPair}
+use Rattle.vcd_compare.specs.VariableDifferences.{VariableDifferences, VariableValue, count_of}
+use Rattle.vcd_compare.specs.VariableDifferences.{first_of, last_of, of_letters, of_word}
 use Rattle.vcd_compare_program.specs.declared.report_line.ReportLine.{ReportLine}
 use Rattle.vcd_compare_program.specs.declared.report_line.ReportLine.TheVariants as lines
-use Rattle.vcd_compare_program.specs.CaptureFacts.{CaptureFacts, SignalFacts}
-use Rattle.vcd_compare_program.specs.ReportLines.{signal_in, report_lines, difference_count}
+use Rattle.vcd_compare_program.specs.CaptureFacts.{CaptureFacts, VariableFacts}
+use Rattle.vcd_compare_program.specs.ReportLines.{facts_in, report_lines, difference_count}
 use Rattle.vcd_compare_program.specs.ReportLines.{same_count}
 use Rattle.vcd_compare_program.specs.ComparisonText.{both, scale_text}
 
@@ -51,19 +52,23 @@ bool_json false = codes "false"
 abbrev pub about_json : (what : List ℕ) → List ℕ
 about_json what = codes "{\"what\": \"" ++ what ++ codes "\"}"
 
--- what is before the other members of an object on a signal
-abbrev pub signal_begin : (what name : List ℕ) → List ℕ
-signal_begin what name =
+-- what is before the other members of an object on a variable
+abbrev pub variable_begin : (what name : List ℕ) → List ℕ
+variable_begin what name =
     codes "{\"what\": \"" ++ what ++ codes "\", \"name\": " ++ string_json name
 
--- an object that only names a signal
+-- an object that only names a variable
 abbrev pub name_json : (what name : List ℕ) → List ℕ
-name_json what name = signal_begin what name ++ codes "}"
+name_json what name = variable_begin what name ++ codes "}"
+
+-- a value as a string
+abbrev pub value_json : VariableValue → List ℕ
+value_json (of_letters value) = quoted (printed_letters value)
+value_json (of_word word) = string_json word
 
 -- both values at the first tick of a difference
-abbrev pub both_values_json : Difference (List Bit) → List ℕ
-both_values_json d =
-    both_json (quoted (printed_letters d.value_in_a)) (quoted (printed_letters d.value_in_b))
+abbrev pub both_values_json : Difference VariableValue → List ℕ
+both_values_json d = both_json (value_json d.value_in_a) (value_json d.value_in_b)
 
 -- the ticks of a difference
 abbrev pub ticks_json : TickRange → List ℕ
@@ -71,19 +76,19 @@ ticks_json ticks =
     codes "{\"from\": " ++ decimal ticks.first ++ member (codes "to") (decimal ticks.last)
 
 -- one of the differences that are shown, with both values at its first tick
-abbrev pub difference_json : (which : List ℕ) → Option (Difference (List Bit)) → List ℕ
+abbrev pub difference_json : (which : List ℕ) → Option (Difference VariableValue) → List ℕ
 difference_json which None = []
 difference_json which (Some d) = member which (ticks_json d.ticks)
     ++ member (codes "values") (both_values_json d) ++ codes "}"
 
 -- how many differences stand, the first and the last of them
-abbrev pub differences_json : Differences (List Bit) → List ℕ
-differences_json ds = member (codes "count") (decimal ds.count)
-    ++ difference_json (codes "first") ds.first ++ difference_json (codes "last") ds.last
+abbrev pub differences_json : VariableDifferences → List ℕ
+differences_json ds = member (codes "count") (decimal (count_of ds))
+    ++ difference_json (codes "first") (first_of ds) ++ difference_json (codes "last") (last_of ds)
 
--- the waves of two signals
+-- the waves of two variables
 abbrev pub pair_json : CaptureFacts → ComparedPair → List ℕ
-pair_json a p = signal_begin (codes "values") (signal_in a p.first).name
+pair_json a p = variable_begin (codes "values") (facts_in a p.first).name
     ++ differences_json p.differences ++ codes "}"
 
 -- the same, if there are such
@@ -96,9 +101,9 @@ abbrev pub run_json : Option ℕ → List ℕ
 run_json None = codes "null"
 run_json (Some n) = decimal n
 
--- the shortest run of two signals
+-- the shortest run of two variables
 abbrev pub pair_run_json : CaptureFacts → ComparedPair → List ℕ
-pair_run_json a p = signal_begin (codes "short run") (signal_in a p.first).name
+pair_run_json a p = variable_begin (codes "short run") (facts_in a p.first).name
     ++ member_name (codes "ticks") ++ run_json p.short_run ++ codes "}"
 
 -- the same, if there are such
@@ -106,29 +111,38 @@ abbrev pub short_run_json : CaptureFacts → Option ComparedPair → List ℕ
 short_run_json a None = []
 short_run_json a (Some p) = pair_run_json a p
 
--- the kinds of a signal and its partner
-abbrev pub kinds_json : SignalFacts → (kind : List ℕ) → List ℕ
-kinds_json s kind = signal_begin (codes "kind") s.name ++ member_name (codes "kinds")
+-- the kinds of a variable and its partner
+abbrev pub kinds_json : VariableFacts → (kind : List ℕ) → List ℕ
+kinds_json s kind = variable_begin (codes "kind") s.name ++ member_name (codes "kinds")
     ++ both_json (string_json s.kind) (string_json kind) ++ codes "}"
 
--- the widths of a signal and its partner
-abbrev pub widths_json : SignalFacts → (width : ℕ) → List ℕ
-widths_json s width = signal_begin (codes "width") s.name ++ member_name (codes "widths")
+-- the widths of a variable and its partner
+abbrev pub widths_json : VariableFacts → (width : ℕ) → List ℕ
+widths_json s width = variable_begin (codes "width") s.name ++ member_name (codes "widths")
     ++ both_json (decimal s.width) (decimal width) ++ codes "}"
+
+-- what is before the other members of an object on what is left out
+abbrev pub left_out_begin : (what : List ℕ) → List ℕ
+left_out_begin what = codes "{\"what\": " ++ quoted what
+
+-- an object on what is left out of a capture
+abbrev pub left_out_json : (what : List ℕ) → LeftOut → List ℕ
+left_out_json what l =
+    left_out_begin what ++ member (codes "replaced") (decimal l.replaced) ++ codes "}"
 
 -- a line of the report as an object
 abbrev pub line_json : (a b : CaptureFacts) → Comparison → ReportLine → List ℕ
 line_json a b c lines.FinerTicks = about_json (codes "finer ticks")
 line_json a b c lines.OneTimescale = about_json (codes "one timescale")
 line_json a b c lines.OtherEnd = about_json (codes "end")
-line_json a b c (lines.OnlyInFirst k) = name_json (codes "only in first") (signal_in a k).name
-line_json a b c (lines.OnlyInSecond j) = name_json (codes "only in second") (signal_in b j).name
-line_json a b c (lines.OtherKind k j) = kinds_json (signal_in a k) (signal_in b j).kind
-line_json a b c (lines.OtherWidth k j) = widths_json (signal_in a k) (signal_in b j).width
+line_json a b c (lines.OnlyInFirst k) = name_json (codes "only in first") (facts_in a k).name
+line_json a b c (lines.OnlyInSecond j) = name_json (codes "only in second") (facts_in b j).name
+line_json a b c (lines.OtherKind k j) = kinds_json (facts_in a k) (facts_in b j).kind
+line_json a b c (lines.OtherWidth k j) = widths_json (facts_in a k) (facts_in b j).width
 line_json a b c (lines.OtherValues place) = values_json a (slice_get c.compared.items place)
-line_json a b c lines.SkippedInFirst = about_json (codes "skipped in first")
-line_json a b c lines.SkippedInSecond = about_json (codes "skipped in second")
 line_json a b c (lines.ShortRun place) = short_run_json a (slice_get c.compared.items place)
+line_json a b c lines.LeftOutOfFirst = left_out_json (codes "left out of first") a.left_out
+line_json a b c lines.LeftOutOfSecond = left_out_json (codes "left out of second") b.left_out
 
 -- what is before an item of a list: a comma, unless it is the first, and a line feed
 abbrev pub separator : (place : ℕ) → List ℕ
@@ -145,11 +159,10 @@ files_json a b = codes "{\"files\": " ++ both_json (string_json a.path) (string_
     ++ member (codes "timescales")
     (both_json (quoted (scale_text a.timescale)) (quoted (scale_text b.timescale)))
 
--- the captures: their paths, timescales, ends, and how many variables of each are left out
+-- the captures: their paths, timescales and ends
 abbrev pub captures_json : (a b : CaptureFacts) → List ℕ
-captures_json a b = files_json a b
-    ++ member (codes "ends") (both_json (decimal a.end) (decimal b.end))
-    ++ member (codes "skipped") (both_json (decimal a.skipped) (decimal b.skipped))
+captures_json a b =
+    files_json a b ++ member (codes "ends") (both_json (decimal a.end) (decimal b.end))
 
 -- the timescale whose ticks all others are, the window and the tolerance
 abbrev pub bounds_json : Comparison → List ℕ
@@ -157,10 +170,10 @@ bounds_json c = member (codes "timescale") (quoted (scale_text c.timescale))
     ++ member (codes "from") (decimal c.window.first) ++ member (codes "to") (decimal c.window.last)
     ++ member (codes "within") (decimal c.tolerance)
 
--- how many lines say that something differs, how many signals are the same, and whether all is
+-- how many lines say that something differs, how many variables are the same, and whether all is
 abbrev pub totals_json : (differing same : ℕ) → List ℕ
 totals_json differing same = member (codes "lines_that_differ") (decimal differing)
-    ++ member (codes "same_signals") (decimal same)
+    ++ member (codes "same_variables") (decimal same)
     ++ member (codes "same") (bool_json (differing == 0))
 
 -- what was compared

@@ -3,6 +3,7 @@ use Rattle.std.specs.Prelude.{◌≡◌, ℕ, Bool, true, false, not, ◌&&◌, 
 use Rattle.std.specs.Prelude.{Result, Ok, Err}
 use Rattle.vcd_core.specs.Devices.{DeviceEnd, HasText, HasPrefix, IsUntouched}
 use Rattle.vcd_compare.specs.Comparisons.{IsComparisonOf, IsAnswerOf}
+use Rattle.vcd_compare.specs.Variables.{with_all}
 use Rattle.vcd_compare.specs.declared.comparison.Comparison.{Comparison}
 use Rattle.vcd_compare_program.specs.declared.reporting.Verdict.{Verdict}
 use Rattle.vcd_compare_program.specs.declared.reporting.Verdict.TheVariants.{Same, Different}
@@ -10,14 +11,14 @@ use Rattle.vcd_compare_program.specs.declared.reporting.Verdict.TheVariants.{Par
 use Rattle.vcd_compare_program.specs.declared.reporting.ReportRequest.{ReportRequest}
 use Rattle.vcd_compare_program.specs.declared.compare_fault.CompareFault.{CompareFault}
 use Rattle.vcd_compare_program.specs.declared.compare_fault.CompareFault.TheVariants as faults
-use Rattle.vcd_compare_program.specs.CaptureFacts.{CaptureFacts, capture_facts}
+use Rattle.vcd_compare_program.specs.CaptureFacts.{CaptureFacts, capture_facts, left_out_told}
 use Rattle.vcd_compare_program.specs.ReportLines.{is_whole}
 use Rattle.vcd_compare_program.specs.Sameness.{is_same}
 use Rattle.vcd_compare_program.specs.ComparisonText.{comparison_text}
 use Rattle.vcd_compare_program.specs.JsonText.{comparison_json}
 
 -- what is found: something differs; or nothing does, and it is asked for that all is compared, and
--- variables are left out; or nothing differs
+-- something is left out; or nothing differs
 abbrev pub verdict_of : (is_strict is_same is_whole : Bool) → Verdict
 verdict_of is_strict false is_whole = Different
 verdict_of is_strict true is_whole = if is_strict && not is_whole then Partial else Same
@@ -30,12 +31,14 @@ report false a b c = comparison_text a b c
 -- what is shown of the first capture of a comparison, by what its file means
 abbrev pub first_facts : (r : ReportRequest) (file other : List ℕ) (c : Comparison)
     → IsComparisonOf r.compared file other c → CaptureFacts
-first_facts r file other c of = capture_facts r.first.now of.a c.first.factor of.first.skipped
+first_facts r file other c of = capture_facts r.first.now (with_all of.a) c.first.factor
+    (left_out_told r.is_strict c.first.left_out)
 
 -- the same of the second
 abbrev pub second_facts : (r : ReportRequest) (file other : List ℕ) (c : Comparison)
     → IsComparisonOf r.compared file other c → CaptureFacts
-second_facts r file other c of = capture_facts r.second.now of.b c.second.factor of.second.skipped
+second_facts r file other c of = capture_facts r.second.now (with_all of.b) c.second.factor
+    (left_out_told r.is_strict c.second.left_out)
 
 -- a device took the report of the comparison of two files, or the first bytes of it; and this is
 -- what it finds

@@ -11,19 +11,20 @@ use vcd_shell::{flag, is_given, list_option, value_option};
 const VERSION: &str = "1.0.0";
 
 const ABOUT: &str = "\
-Compares two four-state waveform captures (VCD, IEEE 1364-2005, 18.2) of any size, signal by signal,
-by name: which signals only one has, whose kinds or widths differ, and whose values differ, with the
+Compares two four-state waveform captures (VCD, IEEE 1364-2005, 18.2) of any size by the names of
+their variables: which only one has, whose kinds or widths differ, and whose values differ, with the
 first and the last such ticks. Each file is read once.";
 
 const AFTER_HELP: &str = "\
 A capture may be a pipe, and one of them may be -, standard input. Values are compared up to the
 smaller end, a difference being as many ticks in a row as can be. If the captures have two
-timescales, ticks are those of the finer. The second of several signals with one name is compared
-with the second of them, and shown as NAME (2).
+timescales, ticks are those of the finer. The value of a real number or a string is the word of its
+change, that of an event the tick at which it was last. The second of several variables with one
+name is compared with the second of them, and shown as NAME (2); signals come first.
 
-  PATTERN is a signal's whole full name, with its scopes and its range, such as top.data[7:0]. In it
-  `*` stands for any characters, dots too, and `?` for any one byte; `[7:0]` means itself. Of two
-  names that --map pairs, one has to match.
+  PATTERN is a whole full name, with its scopes and its range, such as top.data[7:0]. In it `*`
+  stands for any characters, dots too, and `?` for any one byte; `[7:0]` means itself. Of two names
+  that --map pairs, one has to match.
 
   OLD is a full name of A, or the scopes at its beginning; NEW is what it is in B: --map tb.dut=top
   compares tb.dut.clk with top.clk. The first map that fits counts.
@@ -40,12 +41,12 @@ Exit status:
   0  nothing that was compared differs, or help or the version is shown
   1  something differs
   2  the command line or a capture is refused, or a capture can't be read
-  3  with --strict: nothing that was compared differs, but variables are left out
+  3  with --strict: nothing that was compared differs, but something is left out
   4  standard output can't be written
   5  out of memory
 ";
 
-const KEEP_HELP: &str = "Compare the signals with such a name; repeatable. Without it all are";
+const KEEP_HELP: &str = "Compare the variables with such a name; repeatable. Without it all are";
 
 const MAP_HELP: &str = "OLD of A is NEW in B: a name, or scopes; repeatable";
 
@@ -55,7 +56,7 @@ const TO_HELP: &str = "The last tick that is compared; without it the smaller en
 
 const WITHIN_HELP: &str = "By how much an edge may be late in one of the captures; without it 0";
 
-const STRICT_HELP: &str = "Status 3 if nothing differs, but variables are left out";
+const STRICT_HELP: &str = "Tell what is left out; if that is all, the status is 3";
 
 /// What the words of the command line ask for.
 #[derive(Clone, Copy)]
@@ -109,7 +110,7 @@ pub fn command_line<'a>(alloc: Global) -> Result<Command<'a>, AllocError>
     with_times(with_captures(program, alloc)?, alloc)
 }
 
-/// With the captures, and which of their signals are compared.
+/// With the captures, and which of their variables are compared.
 fn with_captures<'a>(program: Command<'a>, alloc: Global) -> Result<Command<'a>, AllocError>
     ensures { IfOk result (λ c. app_of c ≡ spec.with_captures (app_of program.entry)) }
 {

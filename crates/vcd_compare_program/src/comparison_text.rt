@@ -1,8 +1,8 @@
 //! The report of a comparison as lines of text.
 
-ghost use Rattle.std.specs.Prelude.{◌≡◌, ◌++◌, IfOk, OnOk, codes, slice_get};
-ghost use Rattle.vcd_text.specs.Letters.{printed_letters};
-ghost use Rattle.vcd_compare_program.specs.ReportLines.{report_lines, signal_in};
+ghost use Rattle.std.specs.Prelude.{◌≡◌, ◌++◌, IfOk, OnOk, codes, option_map, slice_get};
+ghost use Rattle.vcd_compare.specs.inside.ToldDifferences.{told_difference, told_value};
+ghost use Rattle.vcd_compare_program.specs.ReportLines.{report_lines, facts_in};
 ghost use Rattle.vcd_compare_program.specs.ComparisonText as spec;
 ghost use Rattle.vcd_compare_program.specs.inside.Facts.{facts_of};
 
@@ -10,8 +10,8 @@ use crate::capture_facts::ReportedCapture;
 use crate::report_line::{ReportLine, difference_count, is_whole, same_count};
 use crate::text_parts::{append_letters, append_scale, append_ticks};
 use std::alloc::Global;
-use vcd_compare::{ComparedPair, Comparison, Difference};
-use vcd_core::{NoMemory, Timescale, Value};
+use vcd_compare::{ComparedPair, Comparison, Difference, ToldValue};
+use vcd_core::{NoMemory, Timescale};
 use vcd_shell::{append_bytes, append_decimal, append_shown};
 use vcd_text::TickRange;
 
@@ -62,11 +62,11 @@ fn append_line(
         ReportLine::OtherValues(place) => {
             append_values(text, first, comparison.compared.as_slice(), place)
         }
-        ReportLine::SkippedInFirst => append_skipped(text, first),
-        ReportLine::SkippedInSecond => append_skipped(text, second),
         ReportLine::ShortRun(place) => {
             append_short_run(text, first, comparison.compared.as_slice(), place)
         }
+        ReportLine::LeftOutOfFirst => append_left_out(text, first),
+        ReportLine::LeftOutOfSecond => append_left_out(text, second),
     }
 }
 
@@ -130,20 +130,20 @@ fn append_ends(
     append_bytes(text, b" (compared up to the smaller)")
 }
 
-/// Appends the name of a signal, before what is said of it.
+/// Appends the name of a variable, before what is said of it.
 fn append_about(
     text: &mut Vec<u8>,
     capture: &ReportedCapture,
     position: usize,
 ) -> Result<(), NoMemory>
     ensures { OnOk result (text.new.items ≡ text.old.items
-        ++ (signal_in (facts_of capture.now) position).name ++ codes ": ") }
+        ++ (facts_in (facts_of capture.now) position).name ++ codes ": ") }
 {
     append_bytes(text, capture.name(position))?;
     append_bytes(text, b": ")
 }
 
-/// Appends the line on a signal that only this capture has.
+/// Appends the line on a variable that only this capture has.
 fn append_only_in(
     text: &mut Vec<u8>,
     capture: &ReportedCapture,
@@ -157,7 +157,7 @@ fn append_only_in(
     append_bytes(text, capture.path.as_slice())
 }
 
-/// Appends the line on the kinds of a signal and its partner.
+/// Appends the line on the kinds of a variable and its partner.
 fn append_kinds(
     text: &mut Vec<u8>,
     first: &ReportedCapture,
@@ -165,7 +165,7 @@ fn append_kinds(
     other: &[u8],
 ) -> Result<(), NoMemory>
     ensures { OnOk result (text.new.items ≡ text.old.items
-        ++ spec.kinds_text (signal_in (facts_of first.now) position) other.now) }
+        ++ spec.kinds_text (facts_in (facts_of first.now) position) other.now) }
 {
     append_about(text, first, position)?;
     append_shown(text, first.kind(position))?;
@@ -173,7 +173,7 @@ fn append_kinds(
     append_shown(text, other)
 }
 
-/// Appends the line on the widths of a signal and its partner.
+/// Appends the line on the widths of a variable and its partner.
 fn append_widths(
     text: &mut Vec<u8>,
     first: &ReportedCapture,
@@ -181,12 +181,22 @@ fn append_widths(
     other: u64,
 ) -> Result<(), NoMemory>
     ensures { OnOk result (text.new.items ≡ text.old.items
-        ++ spec.widths_text (signal_in (facts_of first.now) position) other) }
+        ++ spec.widths_text (facts_in (facts_of first.now) position) other) }
 {
     append_about(text, first, position)?;
-    append_counted(text, first.width(position), b"bit")?;
+    append_width(text, first.width(position))?;
     append_bytes(text, b", ")?;
-    append_counted(text, other, b"bit")
+    append_width(text, other)
+}
+
+/// Appends a width.
+fn append_width(text: &mut Vec<u8>, width: u64) -> Result<(), NoMemory>
+    ensures { OnOk result (text.new.items ≡ text.old.items ++ spec.width_text width) }
+{
+    if width == 0 {
+        return append_bytes(text, b"no bits");
+    }
+    append_counted(text, width, b"bit")
 }
 
 /// Appends a number of things.
@@ -206,7 +216,7 @@ fn append_counted(text: &mut Vec<u8>, count: u64, thing: &[u8]) -> Result<(), No
     )
 }
 
-/// Appends the line on the waves of two signals, by their place.
+/// Appends the line on the waves of two variables, by their place.
 fn append_values(
     text: &mut Vec<u8>,
     first: &ReportedCapture,
@@ -222,7 +232,7 @@ fn append_values(
     }
 }
 
-/// Appends the line on the waves of two signals that were compared.
+/// Appends the line on the waves of two variables that were compared.
 fn append_pair(
     text: &mut Vec<u8>,
     first: &ReportedCapture,
@@ -232,20 +242,19 @@ fn append_pair(
         ++ spec.pair_text (facts_of first.now) pair.now) }
 {
     append_about(text, first, pair.first)?;
-    let differences = pair.differences.widened();
-    append_counted(text, differences.count, b"difference")?;
-    append_difference(text, b"first", &differences.first)?;
-    append_difference(text, b"last", &differences.last)
+    append_counted(text, pair.differences.count(), b"difference")?;
+    append_difference(text, b"first", &pair.differences.first())?;
+    append_difference(text, b"last", &pair.differences.last())
 }
 
 /// Appends one of the differences that are shown, with both values at its first tick.
 fn append_difference(
     text: &mut Vec<u8>,
     which: &[u8],
-    difference: &Option<Difference<Value>>,
+    difference: &Option<Difference<ToldValue<'_>>>,
 ) -> Result<(), NoMemory>
     ensures { OnOk result (text.new.items ≡ text.old.items
-        ++ spec.difference_text which.now difference.now) }
+        ++ spec.difference_text which.now (option_map told_difference difference.now)) }
 {
     let Some(difference) = difference else {
         return Ok(());
@@ -259,17 +268,41 @@ fn append_difference(
 }
 
 /// Appends both values at the first tick of a difference.
-fn append_both_values(text: &mut Vec<u8>, difference: &Difference<Value>) -> Result<(), NoMemory>
+fn append_both_values(
+    text: &mut Vec<u8>,
+    difference: &Difference<ToldValue<'_>>,
+) -> Result<(), NoMemory>
     ensures { OnOk result (text.new.items ≡ text.old.items
-        ++ spec.both (printed_letters difference.now.value_in_a)
-        (printed_letters difference.now.value_in_b)) }
+        ++ spec.both (spec.printed_value (told_value difference.now.value_in_a))
+        (spec.printed_value (told_value difference.now.value_in_b))) }
 {
-    append_letters(text, &difference.value_in_a)?;
+    append_value(text, &difference.value_in_a)?;
     append_bytes(text, b", ")?;
-    append_letters(text, &difference.value_in_b)
+    append_value(text, &difference.value_in_b)
 }
 
-/// Appends the line on the shortest run of two signals, by their place.
+/// Appends a value.
+fn append_value(text: &mut Vec<u8>, value: &ToldValue<'_>) -> Result<(), NoMemory>
+    ensures { OnOk result (text.new.items ≡ text.old.items
+        ++ spec.printed_value (told_value value.now)) }
+{
+    match value {
+        ToldValue::Letters(value) => append_letters(text, value),
+        ToldValue::Word(word) => append_word(text, word),
+    }
+}
+
+/// Appends the word of a change, or `none`.
+fn append_word(text: &mut Vec<u8>, word: &[u8]) -> Result<(), NoMemory>
+    ensures { OnOk result (text.new.items ≡ text.old.items ++ spec.printed_word word.now) }
+{
+    if word.is_empty() {
+        return append_bytes(text, b"none");
+    }
+    append_shown(text, word)
+}
+
+/// Appends the line on the shortest run of two variables, by their place.
 fn append_short_run(
     text: &mut Vec<u8>,
     first: &ReportedCapture,
@@ -285,7 +318,7 @@ fn append_short_run(
     }
 }
 
-/// Appends the line on the shortest run of two signals that were compared.
+/// Appends the line on the shortest run of two variables that were compared.
 fn append_pair_run(
     text: &mut Vec<u8>,
     first: &ReportedCapture,
@@ -311,13 +344,13 @@ fn append_run(text: &mut Vec<u8>, ticks: Option<u64>) -> Result<(), NoMemory>
 }
 
 /// Appends the line on what is left out of a capture.
-fn append_skipped(text: &mut Vec<u8>, capture: &ReportedCapture) -> Result<(), NoMemory>
+fn append_left_out(text: &mut Vec<u8>, capture: &ReportedCapture) -> Result<(), NoMemory>
     ensures { OnOk result (text.new.items ≡ text.old.items
-        ++ spec.skipped_text (facts_of capture.now)) }
+        ++ spec.left_out_text (facts_of capture.now)) }
 {
     append_bytes(text, capture.path.as_slice())?;
     append_bytes(text, b": not compared: ")?;
-    append_counted(text, capture.skipped, b"variable")
+    append_counted(text, capture.left_out.replaced, b"replaced change")
 }
 
 /// Appends the last line, with a line feed.
@@ -351,7 +384,7 @@ fn append_differing(text: &mut Vec<u8>, count: u64) -> Result<(), NoMemory>
     append_bytes(text, b"; ")
 }
 
-/// Appends how many signals are the same, as far as all was compared.
+/// Appends how many variables are the same, as far as all was compared.
 fn append_same(
     text: &mut Vec<u8>,
     first: &ReportedCapture,
@@ -362,7 +395,11 @@ fn append_same(
         ++ spec.same_text (facts_of first.now) (facts_of second.now) compared.now) }
 {
     append_extent(text, is_whole(first, second))?;
-    append_counted(text, same_count(first, second, compared) as u64, b"signal")
+    append_counted(
+        text,
+        same_count(first, second, compared) as u64,
+        b"variable",
+    )
 }
 
 /// Appends whether all that is the same was compared.

@@ -1,18 +1,19 @@
 //! The report of a comparison as one JSON object.
 
-ghost use Rattle.std.specs.Prelude.{◌≡◌, ◌++◌, IfOk, OnOk, codes, slice_get};
+ghost use Rattle.std.specs.Prelude.{◌≡◌, ◌++◌, IfOk, OnOk, codes, option_map, slice_get};
 ghost use Rattle.std.specs.Fmt.{decimal};
 ghost use Rattle.vcd_text.specs.Letters.{printed_letters};
+ghost use Rattle.vcd_compare.specs.inside.ToldDifferences.{told_difference, told_value};
 ghost use Rattle.vcd_compare_program.specs.ComparisonText.{scale_text};
 ghost use Rattle.vcd_compare_program.specs.JsonText as spec;
-ghost use Rattle.vcd_compare_program.specs.ReportLines.{report_lines, signal_in};
+ghost use Rattle.vcd_compare_program.specs.ReportLines.{report_lines, facts_in};
 ghost use Rattle.vcd_compare_program.specs.inside.Facts.{facts_of};
 
 use crate::capture_facts::ReportedCapture;
 use crate::report_line::{ReportLine, difference_count, same_count};
 use crate::text_parts::{append_letters, append_scale, append_ticks};
 use std::alloc::Global;
-use vcd_compare::{ComparedPair, Comparison, Difference, Differences};
+use vcd_compare::{ComparedPair, Comparison, Difference, LeftOut, ToldDifferences, ToldValue};
 use vcd_core::{NoMemory, Timescale, Value};
 use vcd_shell::{append_bytes, append_decimal, append_shown};
 use vcd_text::TickRange;
@@ -53,7 +54,7 @@ fn append_head(
     append_bounds(text, comparison)
 }
 
-/// Appends the captures: their paths, timescales, ends, and how much of each is left out.
+/// Appends the captures: their paths, timescales and ends.
 fn append_captures(
     text: &mut Vec<u8>,
     first: &ReportedCapture,
@@ -64,9 +65,7 @@ fn append_captures(
 {
     append_files(text, first, second)?;
     append_member(text, b"ends")?;
-    append_numbers(text, first.end, second.end)?;
-    append_member(text, b"skipped")?;
-    append_numbers(text, u128::from(first.skipped), u128::from(second.skipped))
+    append_numbers(text, first.end, second.end)
 }
 
 /// Appends the paths and the timescales.
@@ -141,7 +140,7 @@ fn append_totals(text: &mut Vec<u8>, differing: u64, same: u64) -> Result<(), No
     ensures { OnOk result (text.new.items ≡ text.old.items ++ spec.totals_json differing same) }
 {
     append_number(text, b"lines_that_differ", differing)?;
-    append_number(text, b"same_signals", same)?;
+    append_number(text, b"same_variables", same)?;
     append_same(text, differing == 0)
 }
 
@@ -194,10 +193,14 @@ fn append_line(
         ReportLine::OtherValues(place) => {
             append_values(text, first, comparison.compared.as_slice(), place)
         }
-        ReportLine::SkippedInFirst => append_bare(text, b"skipped in first"),
-        ReportLine::SkippedInSecond => append_bare(text, b"skipped in second"),
         ReportLine::ShortRun(place) => {
             append_short_run(text, first, comparison.compared.as_slice(), place)
+        }
+        ReportLine::LeftOutOfFirst => {
+            append_left_out(text, b"left out of first", first.left_out)
+        }
+        ReportLine::LeftOutOfSecond => {
+            append_left_out(text, b"left out of second", second.left_out)
         }
     }
 }
@@ -211,10 +214,10 @@ fn append_bare(text: &mut Vec<u8>, what: &[u8]) -> Result<(), NoMemory>
     append_bytes(text, b"\"}")
 }
 
-/// Appends the begin of an object that says something of a signal.
-fn append_signal(text: &mut Vec<u8>, what: &[u8], name: &[u8]) -> Result<(), NoMemory>
+/// Appends the begin of an object that says something of a variable.
+fn append_variable(text: &mut Vec<u8>, what: &[u8], name: &[u8]) -> Result<(), NoMemory>
     ensures { OnOk result (text.new.items ≡ text.old.items
-        ++ spec.signal_begin what.now name.now) }
+        ++ spec.variable_begin what.now name.now) }
 {
     append_bytes(text, b"{\"what\": \"")?;
     append_bytes(text, what)?;
@@ -222,15 +225,15 @@ fn append_signal(text: &mut Vec<u8>, what: &[u8], name: &[u8]) -> Result<(), NoM
     append_string(text, name)
 }
 
-/// Appends an object that only names a signal.
+/// Appends an object that only names a variable.
 fn append_named(text: &mut Vec<u8>, what: &[u8], name: &[u8]) -> Result<(), NoMemory>
     ensures { OnOk result (text.new.items ≡ text.old.items ++ spec.name_json what.now name.now) }
 {
-    append_signal(text, what, name)?;
+    append_variable(text, what, name)?;
     append_bytes(text, b"}")
 }
 
-/// Appends the kinds of a signal and its partner.
+/// Appends the kinds of a variable and its partner.
 fn append_kinds(
     text: &mut Vec<u8>,
     first: &ReportedCapture,
@@ -238,15 +241,15 @@ fn append_kinds(
     other: &[u8],
 ) -> Result<(), NoMemory>
     ensures { OnOk result (text.new.items ≡ text.old.items
-        ++ spec.kinds_json (signal_in (facts_of first.now) position) other.now) }
+        ++ spec.kinds_json (facts_in (facts_of first.now) position) other.now) }
 {
-    append_signal(text, b"kind", first.name(position))?;
+    append_variable(text, b"kind", first.name(position))?;
     append_member(text, b"kinds")?;
     append_strings(text, first.kind(position), other)?;
     append_bytes(text, b"}")
 }
 
-/// Appends the widths of a signal and its partner.
+/// Appends the widths of a variable and its partner.
 fn append_widths(
     text: &mut Vec<u8>,
     first: &ReportedCapture,
@@ -254,15 +257,15 @@ fn append_widths(
     other: u64,
 ) -> Result<(), NoMemory>
     ensures { OnOk result (text.new.items ≡ text.old.items
-        ++ spec.widths_json (signal_in (facts_of first.now) position) other) }
+        ++ spec.widths_json (facts_in (facts_of first.now) position) other) }
 {
-    append_signal(text, b"width", first.name(position))?;
+    append_variable(text, b"width", first.name(position))?;
     append_member(text, b"widths")?;
     append_numbers(text, u128::from(first.width(position)), u128::from(other))?;
     append_bytes(text, b"}")
 }
 
-/// Appends the differences of the waves of two signals, by their place.
+/// Appends the differences of the waves of two variables, by their place.
 fn append_values(
     text: &mut Vec<u8>,
     first: &ReportedCapture,
@@ -278,7 +281,7 @@ fn append_values(
     }
 }
 
-/// Appends the differences of the waves of two signals that were compared.
+/// Appends the differences of the waves of two variables that were compared.
 fn append_pair(
     text: &mut Vec<u8>,
     first: &ReportedCapture,
@@ -287,29 +290,29 @@ fn append_pair(
     ensures { OnOk result (text.new.items ≡ text.old.items
         ++ spec.pair_json (facts_of first.now) pair.now) }
 {
-    append_signal(text, b"values", first.name(pair.first))?;
-    append_differences(text, &pair.differences.widened())?;
+    append_variable(text, b"values", first.name(pair.first))?;
+    append_differences(text, &pair.differences)?;
     append_bytes(text, b"}")
 }
 
 /// Appends how many differences stand, the first and the last of them.
-fn append_differences(text: &mut Vec<u8>, differences: &Differences<Value>) -> Result<(), NoMemory>
+fn append_differences(text: &mut Vec<u8>, differences: &ToldDifferences) -> Result<(), NoMemory>
     ensures { OnOk result (text.new.items ≡ text.old.items
         ++ spec.differences_json differences.now) }
 {
-    append_number(text, b"count", differences.count)?;
-    append_difference(text, b"first", &differences.first)?;
-    append_difference(text, b"last", &differences.last)
+    append_number(text, b"count", differences.count())?;
+    append_difference(text, b"first", &differences.first())?;
+    append_difference(text, b"last", &differences.last())
 }
 
 /// Appends one of the differences that are shown, with both values at its first tick.
 fn append_difference(
     text: &mut Vec<u8>,
     which: &[u8],
-    difference: &Option<Difference<Value>>,
+    difference: &Option<Difference<ToldValue<'_>>>,
 ) -> Result<(), NoMemory>
     ensures { OnOk result (text.new.items ≡ text.old.items
-        ++ spec.difference_json which.now difference.now) }
+        ++ spec.difference_json which.now (option_map told_difference difference.now)) }
 {
     let Some(difference) = difference else {
         return Ok(());
@@ -331,9 +334,12 @@ fn append_ticks_of(text: &mut Vec<u8>, ticks: TickRange) -> Result<(), NoMemory>
 }
 
 /// Appends both values at the first tick of a difference.
-fn append_both_values(text: &mut Vec<u8>, difference: &Difference<Value>) -> Result<(), NoMemory>
+fn append_both_values(
+    text: &mut Vec<u8>,
+    difference: &Difference<ToldValue<'_>>,
+) -> Result<(), NoMemory>
     ensures { OnOk result (text.new.items ≡ text.old.items
-        ++ spec.both_values_json difference.now) }
+        ++ spec.both_values_json (told_difference difference.now)) }
 {
     append_bytes(text, b"[")?;
     append_value(text, &difference.value_in_a)?;
@@ -343,7 +349,18 @@ fn append_both_values(text: &mut Vec<u8>, difference: &Difference<Value>) -> Res
 }
 
 /// Appends a value as a string.
-fn append_value(text: &mut Vec<u8>, value: &Value) -> Result<(), NoMemory>
+fn append_value(text: &mut Vec<u8>, value: &ToldValue<'_>) -> Result<(), NoMemory>
+    ensures { OnOk result (text.new.items ≡ text.old.items ++ spec.value_json
+        (told_value value.now)) }
+{
+    match value {
+        ToldValue::Letters(value) => append_quoted_letters(text, value),
+        ToldValue::Word(word) => append_string(text, word),
+    }
+}
+
+/// Appends the letters of a value as a string.
+fn append_quoted_letters(text: &mut Vec<u8>, value: &Value) -> Result<(), NoMemory>
     ensures { OnOk result (text.new.items ≡ text.old.items
         ++ spec.quoted (printed_letters value.now)) }
 {
@@ -352,7 +369,7 @@ fn append_value(text: &mut Vec<u8>, value: &Value) -> Result<(), NoMemory>
     append_bytes(text, b"\"")
 }
 
-/// Appends the shortest run of two signals, by their place.
+/// Appends the shortest run of two variables, by their place.
 fn append_short_run(
     text: &mut Vec<u8>,
     first: &ReportedCapture,
@@ -368,7 +385,7 @@ fn append_short_run(
     }
 }
 
-/// Appends the shortest run of two signals that were compared.
+/// Appends the shortest run of two variables that were compared.
 fn append_pair_run(
     text: &mut Vec<u8>,
     first: &ReportedCapture,
@@ -377,7 +394,7 @@ fn append_pair_run(
     ensures { OnOk result (text.new.items ≡ text.old.items
         ++ spec.pair_run_json (facts_of first.now) pair.now) }
 {
-    append_signal(text, b"short run", first.name(pair.first))?;
+    append_variable(text, b"short run", first.name(pair.first))?;
     append_member(text, b"ticks")?;
     append_run(text, pair.short_run)?;
     append_bytes(text, b"}")
@@ -391,6 +408,25 @@ fn append_run(text: &mut Vec<u8>, ticks: Option<u64>) -> Result<(), NoMemory>
         Some(ticks) => append_decimal(text, ticks),
         None => append_bytes(text, b"null"),
     }
+}
+
+/// Appends an object on what is left out of a capture.
+fn append_left_out(text: &mut Vec<u8>, what: &[u8], left_out: LeftOut) -> Result<(), NoMemory>
+    ensures { OnOk result (text.new.items ≡ text.old.items
+        ++ spec.left_out_json what.now left_out) }
+{
+    append_left_out_begin(text, what)?;
+    append_number(text, b"replaced", left_out.replaced)?;
+    append_bytes(text, b"}")
+}
+
+/// Appends the begin of an object on what is left out.
+fn append_left_out_begin(text: &mut Vec<u8>, what: &[u8]) -> Result<(), NoMemory>
+    ensures { OnOk result (text.new.items ≡ text.old.items ++ spec.left_out_begin what.now) }
+{
+    append_bytes(text, b"{\"what\": \"")?;
+    append_bytes(text, what)?;
+    append_bytes(text, b"\"")
 }
 
 /// Appends the name of one more member of an object.

@@ -15,5 +15,6 @@ mod report_line;
 mod reporting;
 mod request_words;
 mod text_parts;
+mod variable_facts;
 
 pub use program::VcdeditCompare;

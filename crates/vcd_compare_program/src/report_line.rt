@@ -11,10 +11,10 @@ ghost use Rattle.vcd_compare_program.specs.inside.Facts.{facts_of};
 
 use crate::capture_facts::ReportedCapture;
 use std::alloc::Global;
-use vcd_compare::{ComparedPair, Comparison, Outcome};
+use vcd_compare::{ComparedPair, Comparison, LeftOut, Outcome};
 use vcd_core::{NoMemory, Timescale};
 
-/// A line of the report but the last. Signals are named by their positions, and those that were
+/// A line of the report but the last. Variables are named by their positions, and those that were
 /// compared by their place in `compared` of the comparison.
 #[derive(Clone, Copy, Debug, PartialEq, Eq)]
 pub enum ReportLine {
@@ -24,22 +24,22 @@ pub enum ReportLine {
     OneTimescale,
     /// The captures end at two ticks.
     OtherEnd,
-    /// The second capture has no such signal as this one of the first.
+    /// The second capture has no such variable as this one of the first.
     OnlyInFirst(usize),
-    /// The first capture has no such signal as this one of the second.
+    /// The first capture has no such variable as this one of the second.
     OnlyInSecond(usize),
-    /// A signal of the first capture and its partner are of two kinds.
+    /// A variable of the first capture and its partner are of two kinds.
     OtherKind(usize, usize),
     /// They are of two widths.
     OtherWidth(usize, usize),
     /// Their waves differ.
     OtherValues(usize),
-    /// Variables of the first capture are left out.
-    SkippedInFirst,
-    /// Variables of the second capture are left out.
-    SkippedInSecond,
     /// A run of theirs is so short that more may be forgiven than late edges.
     ShortRun(usize),
+    /// Something is left out of the first capture.
+    LeftOutOfFirst,
+    /// Something is left out of the second capture.
+    LeftOutOfSecond,
 }
 
 impl ReportLine {
@@ -48,16 +48,15 @@ impl ReportLine {
         ensures { result ≡ spec.tells_difference self }
     {
         match self {
-            ReportLine::FinerTicks | ReportLine::SkippedInFirst | ReportLine::SkippedInSecond => {
-                false
-            }
+            ReportLine::FinerTicks => false,
             ReportLine::ShortRun(_) => false,
+            ReportLine::LeftOutOfFirst | ReportLine::LeftOutOfSecond => false,
             _ => true,
         }
     }
 }
 
-/// All lines but the last. The cost is that of the signals.
+/// All lines but the last. The cost is that of the variables.
 #[tactic(auto, unfolding(crate::specs::ReportLines::report_lines))]
 pub fn report_lines(
     alloc: Global,
@@ -70,7 +69,8 @@ pub fn report_lines(
 {
     let mut lines = Vec::new(alloc);
     push_declared(&mut lines, first, second, comparison)?;
-    push_waves(&mut lines, first, second, comparison.compared.as_slice())?;
+    push_waves(&mut lines, comparison.compared.as_slice())?;
+    push_left_out(&mut lines, first, second)?;
     Ok(lines)
 }
 
@@ -90,18 +90,47 @@ fn push_declared(
 }
 
 /// Adds the lines on waves.
-fn push_waves(
+fn push_waves(lines: &mut Vec<ReportLine>, compared: &[ComparedPair]) -> Result<(), NoMemory>
+    ensures { OnOk result
+        (lines.new.items ≡ lines.old.items ++ spec.waves_lines compared.now) }
+{
+    push_values(lines, compared)?;
+    push_short_runs(lines, compared)
+}
+
+/// Adds the lines on what is left out.
+fn push_left_out(
     lines: &mut Vec<ReportLine>,
     first: &ReportedCapture,
     second: &ReportedCapture,
-    compared: &[ComparedPair],
 ) -> Result<(), NoMemory>
-    ensures { OnOk result (lines.new.items ≡ lines.old.items
-        ++ spec.waves_lines (facts_of first.now) (facts_of second.now) compared.now) }
+    ensures { OnOk result (lines.new.items
+        ≡ lines.old.items ++ spec.left_out_lines (facts_of first.now) (facts_of second.now)) }
 {
-    push_values(lines, compared)?;
-    push_skipped(lines, first, second)?;
-    push_short_runs(lines, compared)
+    push_if(
+        lines,
+        !is_nothing(first.left_out),
+        ReportLine::LeftOutOfFirst,
+    )?;
+    push_if(
+        lines,
+        !is_nothing(second.left_out),
+        ReportLine::LeftOutOfSecond,
+    )
+}
+
+/// Whether nothing is left out.
+fn is_nothing(left_out: LeftOut) -> bool
+    ensures { result ≡ spec.is_nothing left_out }
+{
+    left_out.replaced == 0
+}
+
+/// Whether nothing is left out of either capture.
+pub fn is_whole(first: &ReportedCapture, second: &ReportedCapture) -> bool
+    ensures { result ≡ spec.is_whole (facts_of first.now) (facts_of second.now) }
+{
+    is_nothing(first.left_out) && is_nothing(second.left_out)
 }
 
 /// How many lines say that something differs.
@@ -119,14 +148,7 @@ pub fn is_same(lines: &[ReportLine]) -> bool
     difference_count(lines) == 0
 }
 
-/// Whether no variable is left out.
-pub fn is_whole(first: &ReportedCapture, second: &ReportedCapture) -> bool
-    ensures { result ≡ spec.is_whole (facts_of first.now) (facts_of second.now) }
-{
-    first.skipped == 0 && second.skipped == 0
-}
-
-/// How many signals are the same, of those that were compared.
+/// How many variables are the same, of those that were compared.
 pub fn same_count(
     first: &ReportedCapture,
     second: &ReportedCapture,
@@ -141,14 +163,14 @@ pub fn same_count(
         .count()
 }
 
-/// Whether two signals that were compared are the same.
+/// Whether two variables that were compared are the same.
 fn is_same_pair(first: &ReportedCapture, second: &ReportedCapture, pair: &ComparedPair) -> bool
     ensures { result ≡ spec.is_same_pair (facts_of first.now) (facts_of second.now) pair.now }
 {
     pair.differences.count() == 0 && have_one_kind(first, second, pair.first, pair.second)
 }
 
-/// Whether two signals are of one kind.
+/// Whether two variables are of one kind.
 fn have_one_kind(
     first: &ReportedCapture,
     second: &ReportedCapture,
@@ -199,7 +221,7 @@ fn has_one_timescale(a: Option<Timescale>, b: Option<Timescale>) -> bool
     }
 }
 
-/// Adds the lines on what is told of the signals of the first capture.
+/// Adds the lines on what is told of the variables of the first capture.
 fn push_outcomes(
     lines: &mut Vec<ReportLine>,
     first: &ReportedCapture,
@@ -216,7 +238,7 @@ fn push_outcomes(
     Ok(())
 }
 
-/// Adds the lines on what is told of a signal of the first capture.
+/// Adds the lines on what is told of a variable of the first capture.
 fn push_outcome(
     lines: &mut Vec<ReportLine>,
     first: &ReportedCapture,
@@ -239,7 +261,7 @@ fn push_outcome(
     }
 }
 
-/// Adds the line on the kinds of a signal and its partner, if these are two.
+/// Adds the line on the kinds of a variable and its partner, if these are two.
 fn push_kind(
     lines: &mut Vec<ReportLine>,
     first: &ReportedCapture,
@@ -255,7 +277,7 @@ fn push_kind(
     push_if(lines, differ, ReportLine::OtherKind(position, partner))
 }
 
-/// Adds the lines on signals that only the second capture has.
+/// Adds the lines on variables that only the second capture has.
 fn push_only_in_second(lines: &mut Vec<ReportLine>, positions: &[usize]) -> Result<(), NoMemory>
     ensures { OnOk result (lines.new.items
         ≡ lines.old.items ++ map ReportLine.OnlyInSecond positions.now) }
@@ -276,19 +298,6 @@ fn push_values(lines: &mut Vec<ReportLine>, compared: &[ComparedPair]) -> Result
         push_if(lines, differ, ReportLine::OtherValues(place))?;
     }
     Ok(())
-}
-
-/// Adds the lines on variables that are left out.
-fn push_skipped(
-    lines: &mut Vec<ReportLine>,
-    first: &ReportedCapture,
-    second: &ReportedCapture,
-) -> Result<(), NoMemory>
-    ensures { OnOk result (lines.new.items
-        ≡ lines.old.items ++ spec.skipped_lines (facts_of first.now) (facts_of second.now)) }
-{
-    push_if(lines, first.skipped != 0, ReportLine::SkippedInFirst)?;
-    push_if(lines, second.skipped != 0, ReportLine::SkippedInSecond)
 }
 
 /// Adds the lines on runs that are so short that more may be forgiven than late edges.

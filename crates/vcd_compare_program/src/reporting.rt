@@ -108,8 +108,8 @@ fn report_of(
     requires second { (t : ParseState) × IsStreamAt comparison.now.second.stream t }
     ensures { IfOk result (IsReportAt asked.now comparison.now) }
 {
-    let first = ReportedCapture::new(alloc, asked.first, &comparison.first)?;
-    let second = ReportedCapture::new(alloc, asked.second, &comparison.second)?;
+    let first = ReportedCapture::new(alloc, asked.first, &comparison.first, asked.is_strict)?;
+    let second = ReportedCapture::new(alloc, asked.second, &comparison.second, asked.is_strict)?;
     report_on(alloc, asked, &first, &second, comparison)
 }
 

@@ -1,5 +1,5 @@
 -- What is told of two files that were read to their ends is their comparison.
-use Rattle.std.proofs.Common.{◌≡◌, ℕ, ◌-◌, ◌*◌, ◌^◌, ◌<◌, ◌≤◌, min, List, length, refl, sym, ap, ap₂, ◌∙◌, subst}
+use Rattle.std.proofs.Common.{◌≡◌, ℕ, ◌-◌, ◌*◌, ◌^◌, ◌<◌, ◌≤◌, min, List, ◌++◌, length, refl, sym, ap, ap₂, ◌∙◌, subst}
 use Rattle.std.proofs.Common.{arith, Option, Some, None}
 use Rattle.std.specs.Prelude.{Result, Ok, Err, IfSome, IsTrue, option_map}
 use Rattle.std.specs.Option.{unwrap_or}
@@ -8,8 +8,7 @@ use Rattle.vcd_core.specs.Contents.{Contents}
 use Rattle.vcd_core.specs.Devices.{DeviceEnd}
 use Rattle.vcd_core.specs.declared.capture.TheConstants.{END_LIMIT}
 use Rattle.vcd_core.specs.Sound.{IsSound}
-use Rattle.vcd_text.specs.Grammar.{VariableDeclaration, ParseState, kept_variables}
-use Rattle.vcd_text.specs.Meaning.{meaning}
+use Rattle.vcd_text.specs.Grammar.{ParseState}
 use Rattle.vcd_text.specs.inside.reading.ChangeStream.{IsStreamAt}
 use Rattle.vcd_text.specs.declared.reading.choice.TickRange.{TickRange}
 use Rattle.vcd_text.proofs.shared.HeardMeaning.{declarations_stay}
@@ -20,11 +19,13 @@ use Rattle.vcd_compare.specs.Comparisons.{common_timescale, factor_in, common_en
 use Rattle.vcd_compare.specs.Comparisons.{decide}
 use Rattle.vcd_compare.specs.Comparisons.{pairs_told, has_other_end, IsComparisonOf, IsCompareFault}
 use Rattle.vcd_compare.specs.Comparisons.{request_refused}
+use Rattle.vcd_compare.specs.Variables.{ComparedContents, with_all}
 use Rattle.vcd_compare.specs.inside.Comparing.{IsReadWhole}
 use Rattle.vcd_compare.specs.inside.Pairs.{AreTold}
 use Rattle.vcd_compare.specs.inside.Planning.{HasDeclared, IsPlanOf, AllComparable, ArePairsOf}
+use Rattle.vcd_compare.specs.inside.Side.{at_hand}
 use Rattle.vcd_compare.specs.inside.Times.{scale_between, are_apart}
-use Rattle.vcd_compare.specs.inside.Walk.{ArePlanned, AreWalked}
+use Rattle.vcd_compare.specs.inside.Walk.{ArePlanned, AreWalked, WholeFile}
 use Rattle.vcd_compare.specs.declared.comparing.Prepared.{Prepared}
 use Rattle.vcd_compare.specs.declared.pairs.ComparedPair.{ComparedPair}
 use Rattle.vcd_compare.specs.declared.comparison.Comparison.{Comparison}
@@ -34,7 +35,9 @@ use Rattle.vcd_compare.specs.declared.request.CompareRefusal.{CompareRefusal}
 use Rattle.vcd_compare.specs.declared.timescales.Scale.{Scale}
 use Rattle.vcd_compare.specs.declared.walk.Walk.{Walk}
 use Rattle.vcd_compare.specs.declared.wave_pair.Bounds.{Bounds}
-use Rattle.vcd_compare.proofs.comparing.Meanings.{file_means, means_sound, has_declared}
+use Rattle.vcd_compare.specs.LeftOut.{left_out_of}
+use Rattle.vcd_compare.proofs.left_out.Counted.{counted_whole}
+use Rattle.vcd_compare.proofs.comparing.Meanings.{contents_of, is_meant, means_sound, has_declared}
 use Rattle.vcd_compare.proofs.comparing.Scales.{AreFactors, factors_are, common_is_small}
 use Rattle.vcd_compare.proofs.comparing.ToldPairs.{told_are}
 use Rattle.vcd_compare.proofs.comparing.Widths.{all_comparable}
@@ -72,6 +75,8 @@ pub record Concludes (p : Prepared) (w : Walk) (c : Comparison) : Type 0 where
   pub second_stream : c.second.stream ≡ w.second.stream
   pub first_factor : c.first.factor ≡ p.scale.first
   pub second_factor : c.second.factor ≡ p.scale.second
+  pub first_left_out : c.first.left_out ≡ w.first.left_out
+  pub second_left_out : c.second.left_out ≡ w.second.left_out
   pub timescale : c.timescale ≡ p.scale.timescale
   pub decides : (s t : ParseState) → IsStreamAt w.first.stream s → IsStreamAt w.second.stream t
       → Decides p s t (Ok (c.tolerance, c.window))
@@ -91,11 +96,24 @@ module _ (r : CompareRequest) (file text : List ℕ) (p : Prepared) (w : Walk)
   abbrev t : ParseState
   t = x.walked.other_state
 
+  -- both files as they were heard, what they mean, and the same with all variables as signals
+  abbrev own_file : WholeFile
+  own_file = record { state = s; heard = at_hand x.start.first ++ x.walked.more }
+
+  abbrev other_file : WholeFile
+  other_file = record { state = t; heard = at_hand x.start.second ++ x.walked.other_more }
+
+  abbrev pub own : ComparedContents
+  own = contents_of own_file
+
+  abbrev pub partner : ComparedContents
+  partner = contents_of other_file
+
   abbrev pub a : Contents
-  a = meaning s
+  a = with_all own
 
   abbrev pub b : Contents
-  b = meaning t
+  b = with_all partner
 
   stays : IsTrue s.in_body × (s.declared ≡ x.s.declared) × (s.timescale ≡ x.s.timescale)
   stays = declarations_stay x.s s x.walked.more x.walked.heard x.declared
@@ -103,10 +121,10 @@ module _ (r : CompareRequest) (file text : List ℕ) (p : Prepared) (w : Walk)
   other_stays : IsTrue t.in_body × (t.declared ≡ x.t.declared) × (t.timescale ≡ x.t.timescale)
   other_stays = declarations_stay x.t t x.walked.other_more x.walked.other_heard x.other_declared
 
-  sound : IsSound a
+  sound : IsSound own.meant
   sound = means_sound file s _ x.walked.whole.1
 
-  other_sound : IsSound b
+  other_sound : IsSound partner.meant
   other_sound = means_sound text t _ x.walked.other_whole.1
 
   -- ---- times
@@ -147,10 +165,10 @@ module _ (r : CompareRequest) (file text : List ℕ) (p : Prepared) (w : Walk)
   -- ---- the plan
 
   declares : HasDeclared x.s a
-  declares = has_declared x.s s stays.1
+  declares = has_declared own_file x.s stays.1
 
   other_declares : HasDeclared x.t b
-  other_declares = has_declared x.t t other_stays.1
+  other_declares = has_declared other_file x.t other_stays.1
 
   plan : IsPlanOf r a b p.plan
   plan = x.prepared.plan a b declares other_declares
@@ -174,15 +192,12 @@ module _ (r : CompareRequest) (file text : List ℕ) (p : Prepared) (w : Walk)
 
   -- ---- the pairs
 
-  abbrev kept : ParseState → List VariableDeclaration
-  kept c = kept_variables c.declared
-
-  comparable : AllComparable (kept x.s) (kept x.t) p.plan.outcomes.items
+  comparable : AllComparable x.s.declared x.t.declared p.plan.outcomes.items
   comparable =
-      subst (AllComparable (kept x.s) (kept x.t)) (sym plan.outcomes)
-      (all_comparable r a b (kept x.s) (kept x.t) declares other_declares)
+      subst (AllComparable x.s.declared x.t.declared) (sym plan.outcomes)
+      (all_comparable r a b x.s x.t declares other_declares)
 
-  pairs : ArePairsOf x.start.pairs.bounds (kept x.s) (kept x.t) x.start.pairs
+  pairs : ArePairsOf x.start.pairs.bounds x.s.declared x.t.declared x.start.pairs
   pairs = x.prepared.pairs comparable
 
   start_factor : x.start.first.factor ≡ factor_in a b a
@@ -191,7 +206,7 @@ module _ (r : CompareRequest) (file text : List ℕ) (p : Prepared) (w : Walk)
   other_start_factor : x.start.second.factor ≡ factor_in a b b
   other_start_factor = x.prepared.other_factor ∙ other_factor_is
 
-  walked : AreWalked x.start.pairs.bounds x.last x.start.first.factor x.start.second.factor s t
+  walked : AreWalked x.start.pairs.bounds x.last x.start.first.factor x.start.second.factor own_file other_file
       x.start.pairs.all.items w.pairs.all.items
   walked = x.walked.walked (record {
     declared = x.declared;
@@ -202,10 +217,10 @@ module _ (r : CompareRequest) (file text : List ℕ) (p : Prepared) (w : Walk)
     listed = pairs.listed;
   })
 
-  planned : ArePlanned x.start.pairs.bounds (kept s) (kept t) x.start.pairs.all.items
+  planned : ArePlanned x.start.pairs.bounds s.declared t.declared x.start.pairs.all.items
   planned =
-      subst (λ ds. ArePlanned x.start.pairs.bounds (kept_variables ds) (kept t) x.start.pairs.all.items) (sym stays.1)
-      (subst (λ ds. ArePlanned x.start.pairs.bounds (kept x.s) (kept_variables ds) x.start.pairs.all.items)
+      subst (λ ds. ArePlanned x.start.pairs.bounds ds t.declared x.start.pairs.all.items) (sym stays.1)
+      (subst (λ ds. ArePlanned x.start.pairs.bounds x.s.declared ds x.start.pairs.all.items)
       (sym other_stays.1) pairs.planned)
 
   module _ (tolerance : ℕ) (window : TickRange) (is : decide r a b ≡ Ok (tolerance, window)) where
@@ -237,16 +252,16 @@ module _ (r : CompareRequest) (file text : List ℕ) (p : Prepared) (w : Walk)
     window_small = let ends = by.ends in omega (arith, ends, end_small)
 
     pub compared_are : (c : List ComparedPair) → AreTold w.pairs.bounds window.last w.pairs.all.items c
-        → c ≡ flat_map (λ k. pairs_told tolerance window a b k (outcome_at r a b k))
+        → c ≡ flat_map (λ k. pairs_told tolerance window own partner k (outcome_at r a b k))
         (range_with_len 0 (length a.signals))
     compared_are c told =
         let bounds : Bounds = record { tolerance = tolerance; first = window.first } in
-        told_are bounds window.last x.start.first.factor x.start.second.factor s t by.in_order start_factor
-        other_start_factor r x.start.pairs.all.items w.pairs.all.items c p.plan.outcomes.items
-        (subst (λ d. ArePlanned d (kept s) (kept t) x.start.pairs.all.items) bounds_are planned)
-        (subst (λ d. AreWalked d window.last x.start.first.factor x.start.second.factor s t x.start.pairs.all.items
-        w.pairs.all.items) bounds_are
-        (subst (λ l. AreWalked x.start.pairs.bounds l x.start.first.factor x.start.second.factor s t
+        told_are bounds window.last x.start.first.factor x.start.second.factor own_file other_file by.in_order
+        start_factor other_start_factor r x.start.pairs.all.items w.pairs.all.items c p.plan.outcomes.items
+        (subst (λ d. ArePlanned d s.declared t.declared x.start.pairs.all.items) bounds_are planned)
+        (subst (λ d. AreWalked d window.last x.start.first.factor x.start.second.factor own_file other_file
+        x.start.pairs.all.items w.pairs.all.items) bounds_are
+        (subst (λ l. AreWalked x.start.pairs.bounds l x.start.first.factor x.start.second.factor own_file other_file
         x.start.pairs.all.items w.pairs.all.items) last_walked walked))
         (subst (λ d. AreTold d window.last w.pairs.all.items c) (x.walked.bounds ∙ bounds_are) told)
         plan.outcomes x.prepared.positions
@@ -254,7 +269,7 @@ module _ (r : CompareRequest) (file text : List ℕ) (p : Prepared) (w : Walk)
   -- ---- the comparison
 
   apart_is : (tolerance : ℕ) (to : Option ℕ) → are_apart tolerance to (s.tick * p.scale.first) (t.tick * p.scale.second)
-      ≡ has_other_end tolerance to a b
+      ≡ has_other_end tolerance to own.meant partner.meant
   apart_is tolerance None = refl
   apart_is tolerance (Some last) =
       ap₂ (λ f g. are_apart tolerance (Some last) (s.tick * f) (t.tick * g)) factor_is other_factor_is
@@ -266,19 +281,21 @@ module _ (r : CompareRequest) (file text : List ℕ) (p : Prepared) (w : Walk)
       let small : min (s.tick * p.scale.first) (t.tick * p.scale.second) < 2 ^ 64 - 1 =
       omega (arith, end_is, end_small) in
       record {
-        a = a;
-        b = b;
+        a = own;
+        b = partner;
         first = record {
-          skipped = _;
-          means = file_means file s _ x.walked.whole.1;
+          meant = is_meant file own_file x.walked.whole.1;
           at_end = subst (λ m. IsStreamAt m s) (sym made.first_stream) x.walked.at;
           factor_is = made.first_factor ∙ factor_is;
+          left_out = made.first_left_out ∙ counted_whole file s _ _ _ x.walked.whole x.walked.counted
+              ∙ ap left_out_of x.walked.whole.1.heard_is;
         };
         second = record {
-          skipped = _;
-          means = file_means text t _ x.walked.other_whole.1;
+          meant = is_meant text other_file x.walked.other_whole.1;
           at_end = subst (λ m. IsStreamAt m t) (sym made.second_stream) x.walked.other_at;
           factor_is = made.second_factor ∙ other_factor_is;
+          left_out = made.second_left_out ∙ counted_whole text t _ _ _ x.walked.other_whole x.walked.other_counted
+              ∙ ap left_out_of x.walked.other_whole.1.heard_is;
         };
         is = record {
           timescale = made.timescale ∙ timescale_is;
@@ -298,8 +315,8 @@ module _ (r : CompareRequest) (file text : List ℕ) (p : Prepared) (w : Walk)
       → ((c d : ParseState) → IsStreamAt w.first.stream c → IsStreamAt w.second.stream d → Decides p c d (Err refusal))
       → IsCompareFault r file text first second (errors.Refused refusal)
   is_refused first second refusal decides =
-      request_refused a b _ _ refusal (file_means file s _ x.walked.whole.1)
-      (file_means text t _ x.walked.other_whole.1)
+      request_refused own partner refusal (is_meant file own_file x.walked.whole.1)
+      (is_meant text other_file x.walked.other_whole.1)
       (sym (decision (Err refusal) (decides s t x.walked.at x.walked.other_at))) refl
 
 -- ---- whatever the sources show

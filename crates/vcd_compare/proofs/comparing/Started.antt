@@ -20,7 +20,7 @@ with_factor : (coming left : Option (List ℕ)) (state : ParseState) (old new : 
     → new ≡ record old { factor = new.factor } → IsSideAt coming left state [] old → IsSideAt coming left state [] new
 with_factor coming left state old new is x =
     subst (IsSideAt coming left state []) (sym is)
-    (record { at = x.at; heard = x.heard; goes_on = x.goes_on; ended = x.ended })
+    (record { at = x.at; heard = x.heard; goes_on = x.goes_on; ended = x.ended; counted = x.counted })
 
 pub starts : (coming other left other_left : Option (List ℕ)) (side other_side : Side) (w : Walk)
     (x : IsOpened coming left side) (y : IsOpened other other_left other_side)

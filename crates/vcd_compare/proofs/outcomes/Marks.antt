@@ -1,4 +1,4 @@
--- The signals of the second capture that are marked as partners, and those that are not.
+-- The variables of the second capture that are marked as partners, and those that are not.
 use Rattle.std.proofs.Common.{◌≡◌, ℕ, zero, suc, ◌+◌, ◌<◌, ◌==◌, ◌&&◌, ◌||◌, not, Bool, true, false, List, [], ◌∷◌}
 use Rattle.std.proofs.Common.{length, refl}
 use Rattle.std.proofs.Common.{ap, ap₂, ◌∙◌, inl, inr, arith, Option, Some, None, get_or, replicate}
@@ -18,7 +18,7 @@ use Rattle.vcd_compare.proofs.outcomes.Told.{listed_of}
 use Rattle.vcd_compare.proofs.pairing.Positions.{partner_within, partner_back}
 use Rattle.vcd_compare.proofs.shared.Ranges.{same_filter, one_of, is_one}
 
--- whether a partner is the signal at a position
+-- whether a partner is the variable at a position
 abbrev pub is_at : ℕ → Option ℕ → Bool
 is_at k None = false
 is_at k (Some j) = j == k

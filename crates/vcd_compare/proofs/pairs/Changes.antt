@@ -6,22 +6,20 @@ use Rattle.std.proofs.lemmas.List.{length-map, ext_get_or, get_or-map, get_or_de
 use Rattle.std.proofs.lemmas.List.{get_or-set_other, length-set}
 use Rattle.std.proofs.lemmas.Bool.{cases_eq, cases_lt}
 use Rattle.std.specs.Prelude.{All}
-use Rattle.vcd_core.specs.declared.bit.Bit.{Bit}
-use Rattle.vcd_text.specs.Letters.{value_of_digits}
 use Rattle.vcd_compare.specs.inside.Occurrences.{IsLastPlace}
-use Rattle.vcd_compare.specs.inside.Pairs.{variable_in, HasChanged, IsPairAfter, ArePairsAfter}
+use Rattle.vcd_compare.specs.inside.Pairs.{variable_in, HasText, IsPairAfter, ArePairsAfter}
+use Rattle.vcd_compare.specs.inside.SignalPair.{PairWaves}
 use Rattle.vcd_compare.specs.declared.wave_pair.Bounds.{Bounds}
-use Rattle.vcd_compare.specs.declared.wave_pair.WavePair.{WavePair}
 use Rattle.vcd_compare.specs.declared.pairs.Which.{Which}
 use Rattle.vcd_compare.specs.declared.pairs.Which.TheVariants.{First, Second}
 use Rattle.vcd_compare.specs.declared.pairs.SignalPair.{SignalPair}
 
-module _ (bounds : Bounds) (which : Which) (variable tick : ℕ) (digits : List ℕ) where
+module _ (bounds : Bounds) (which : Which) (variable tick : ℕ) (text : List ℕ) where
   -- the pairs from a place on have changed, and those before it not yet
   pub record AreChangedFrom (bound : ℕ) (old new : List SignalPair) : Type 0 where
     pub count : length new ≡ length old
     pub changed : (i : ℕ) (default : SignalPair) → i < length old → bound ≤ i
-        → IsPairAfter bounds which variable tick digits (get_or old i default) (get_or new i default)
+        → IsPairAfter bounds which variable tick text (get_or old i default) (get_or new i default)
     pub kept : (i : ℕ) (default : SignalPair) → i < bound → get_or new i default ≡ get_or old i default
 
   abbrev variables : List SignalPair → List ℕ
@@ -37,17 +35,17 @@ module _ (bounds : Bounds) (which : Which) (variable tick : ℕ) (digits : List 
 
   -- a pair of another variable
   kept_pair : (p q : SignalPair) → q ≡ p → variable_in which p ≢ variable
-      → IsPairAfter bounds which variable tick digits p q
+      → IsPairAfter bounds which variable tick text p q
   kept_pair p q same other = record {
     others = same ∙ sym (ap {B = SignalPair} (λ w. record p { waves = w }) (ap (λ p. p.waves) same));
-    changed = λ value is. absurd (other is);
+    changed = λ is. absurd (other is);
     unchanged = λ _. ap (λ p. p.waves) same;
   }
 
   -- the pairs before the last place of the variable were of others, so all have changed
   pub all_changed : (bound : ℕ) (old new : List SignalPair) → bound ≤ length old → AreChangedFrom bound old new
       → IsLastPlace (variables old) bound variable None
-      → ArePairsAfter bounds which variable tick digits old new
+      → ArePairsAfter bounds which variable tick text old new
   all_changed bound old new within is none = record {
     count = is.count;
     each = λ i default below. elim (cases_lt i bound) [
@@ -63,8 +61,7 @@ module _ (bounds : Bounds) (which : Which) (variable tick : ℕ) (digits : List 
       → bound ≤ length old → AreChangedFrom bound old now
       → IsLastPlace (variables old) bound variable (Some place)
       → item ≡ get_or now place item → changed ≡ record item { waves = changed.waves }
-      → ((value : List Bit) → value_of_digits item.width digits ≡ Some value
-      → HasChanged bounds which tick value item.waves changed.waves)
+      → HasText item.width bounds which tick text item.waves changed.waves
       → new ≡ set now place changed
       → AreChangedFrom place old new
   one_changed bound place old now new item changed within is (below, at, none) item_is others has_changed new_is =
@@ -75,15 +72,15 @@ module _ (bounds : Bounds) (which : Which) (variable tick : ℕ) (digits : List 
           | inl same ↦
               let stood : item ≡ get_or old place d =
               item_is ∙ is.kept place item below ∙ get_or_default old place item d (omega arith) in
-              subst (λ k. IsPairAfter bounds which variable tick digits (get_or old k d) (get_or new k d)) (sym same)
-              (subst (IsPairAfter bounds which variable tick digits (get_or old place d))
+              subst (λ k. IsPairAfter bounds which variable tick text (get_or old k d) (get_or new k d)) (sym same)
+              (subst (IsPairAfter bounds which variable tick text (get_or old place d))
               (sym (ap (λ l. get_or l place d) new_is
               ∙ get_or-set_same now place changed d (omega (arith, count))))
               (record {
                 others = others ∙ ap {A = SignalPair} {B = SignalPair} (λ p. record p { waves = changed.waves })
                     stood;
-                changed = λ value _. subst (λ p. value_of_digits p.width digits ≡ Some value
-                    → HasChanged bounds which tick value p.waves changed.waves) stood (has_changed value);
+                changed = λ _. subst (λ (p : SignalPair). HasText p.width bounds which tick text p.waves changed.waves)
+                    stood has_changed;
                 unchanged = λ other. absurd (other
                     (sym (get_or-map (variable_in which) old place d 0 (omega arith)) ∙ at));
               }))
@@ -96,7 +93,7 @@ module _ (bounds : Bounds) (which : Which) (variable tick : ℕ) (digits : List 
                     (λ e. none i (omega (arith, other)) before
                     (get_or-map (variable_in which) old i d 0 inside ∙ e))
                 | inr later ↦
-                    subst (IsPairAfter bounds which variable tick digits (get_or old i d)) (sym unmoved)
+                    subst (IsPairAfter bounds which variable tick text (get_or old i d)) (sym unmoved)
                     (is.changed i d inside later)
               ]
         ];
@@ -107,7 +104,7 @@ module _ (bounds : Bounds) (which : Which) (variable tick : ℕ) (digits : List 
 
   -- a change leaves the variables of the pairs as they are
   pub same_variables : (other : Which) (old new : List SignalPair)
-      → ArePairsAfter bounds which variable tick digits old new
+      → ArePairsAfter bounds which variable tick text old new
       → map (variable_in other) new ≡ map (variable_in other) old
   same_variables other [] [] is = refl
   same_variables other [] (q ∷ new) is = absurd (let count = is.count in omega (arith, count))
@@ -122,15 +119,15 @@ module _ (bounds : Bounds) (which : Which) (variable tick : ℕ) (digits : List 
       ∙ kept_variable other (get_or (p ∷ old) i p) _
       ∙ sym (get_or-map (variable_in other) (p ∷ old) i p 0 inside))
     where
-      kept_variable : (other : Which) (p : SignalPair) (w : WavePair (List Bit))
+      kept_variable : (other : Which) (p : SignalPair) (w : PairWaves)
           → variable_in other (record p { waves = w }) ≡ variable_in other p
       kept_variable First p w = refl
       kept_variable Second p w = refl
 
   -- what holds of all pairs after a change
   pub all_after : (P Q : SignalPair → Type 0) (old new : List SignalPair)
-      → ((p q : SignalPair) → IsPairAfter bounds which variable tick digits p q → Q p → P q)
-      → ArePairsAfter bounds which variable tick digits old new → All Q old → All P new
+      → ((p q : SignalPair) → IsPairAfter bounds which variable tick text p q → Q p → P q)
+      → ArePairsAfter bounds which variable tick text old new → All Q old → All P new
   all_after P Q old new step is all = λ i default below.
       let count = is.count in
       let inside : i < length old = omega (arith, count, below) in

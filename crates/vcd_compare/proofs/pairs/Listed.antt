@@ -33,15 +33,15 @@ last_listed which variable pairs found at found_is is =
     (subst (IsLastPlace (map (variable_in which) pairs) (length (map (variable_in which) pairs)) variable) found_is is)
 
 -- pairs that were lent have changed
-pub after_lent : (bounds : Bounds) (which : Which) (variable tick limit : ℕ) (digits : List ℕ) (last : ℕ)
+pub after_lent : (bounds : Bounds) (which : Which) (variable tick limit : ℕ) (text : List ℕ) (last : ℕ)
     (places : Occurrences) (old lent new : List SignalPair) → lent ≡ old
     → (HasOccurrences limit (map (variable_in which) lent) places
     → IsLastPlace (map (variable_in which) lent) (length lent) variable (Some last)
-    → ArePairsAfter bounds which variable tick digits lent new)
+    → ArePairsAfter bounds which variable tick text lent new)
     → HasOccurrences limit (map (variable_in which) old) places
     → IsLastPlace (map (variable_in which) old) (length old) variable (Some last)
-    → ArePairsAfter bounds which variable tick digits old new
-after_lent bounds which variable tick limit digits last places old lent new lent_is after has last_is =
-    subst (λ l. ArePairsAfter bounds which variable tick digits l new) lent_is
+    → ArePairsAfter bounds which variable tick text old new
+after_lent bounds which variable tick limit text last places old lent new lent_is after has last_is =
+    subst (λ l. ArePairsAfter bounds which variable tick text l new) lent_is
     (after (subst (λ l. HasOccurrences limit (map (variable_in which) l) places) (sym lent_is) has)
     (subst (λ l. IsLastPlace (map (variable_in which) l) (length l) variable (Some last)) (sym lent_is) last_is))

@@ -1,14 +1,17 @@
 -- What is heard of a file in several parts, one after another, and the order of its ticks.
 use Rattle.std.proofs.Common.{◌≡◌, ℕ, ◌≤◌, ◌*◌, List, [], ◌∷◌, ◌++◌, map, refl, sym, ap, subst, ◌∙◌, arith}
 use Rattle.std.proofs.Common.{inl, inr, append_assoc}
-use Rattle.std.specs.Prelude.{IsTrue, IsFalse}
+use Rattle.std.specs.Prelude.{IsTrue, IsFalse, IsSomeAnd, Option, Some, None, length, ◌<◌, slice_get}
+use Rattle.std.proofs.lemmas.Option.{slice_get_within}
 use Rattle.std.proofs.Math.Nat.{mul-le-mul_right}
 use Rattle.std.proofs.lemmas.Bool.{cases_Bool, and_parts, both_ways}
 use Rattle.vcd_text.specs.Items.{Item, entry, timescale, scope, upscope, variable, end_definitions, stamp, scalar}
 use Rattle.vcd_text.specs.Items.{vector, real_or_string, dump_word, other}
-use Rattle.vcd_text.specs.Grammar.{ParseState, AllowsAll, fits, state_after, state_after_item}
+use Rattle.vcd_text.specs.Grammar.{ParseState, VariableDeclaration, AllowsAll, fits, state_after, state_after_item}
+use Rattle.vcd_text.specs.Grammar.{kept_variables}
 use Rattle.vcd_text.specs.HeardChanges.{HeardChange, AreHeard, heard_all, heard_of}
-use Rattle.vcd_text.specs.HeardLaws.{TicksRise}
+use Rattle.vcd_text.specs.HeardLaws.{TicksRise, FitsTarget}
+use Rattle.vcd_text.specs.declared.reading.heard_changes.ChangeTarget.TheVariants.{Kept}
 use Rattle.vcd_text.proofs.shared.HeardMeaning.{declarations_stay}
 
 -- ---- parts
@@ -82,6 +85,19 @@ pub declared_where_heard : (from to : ParseState) (h : HeardChange) (hs : List H
     → IsTrue to.in_body
 declared_where_heard from to h hs are =
     subst (λ s. IsTrue s.in_body) are.state_is (body_has_begun from are.items h hs are.allowed (sym are.heard_is))
+
+-- ---- the variable of a change
+
+some_within : (kept : List VariableDeclaration) (k : ℕ) (o : Option VariableDeclaration)
+    (P : VariableDeclaration → Type 0) → slice_get kept k ≡ o → IsSomeAnd o P → k < length kept
+some_within kept k None P is some = absurd some
+some_within kept k (Some d) P is some = slice_get_within kept k d is
+
+-- a kept variable that changes is one of the file's
+pub kept_within : (declared : List VariableDeclaration) (k : ℕ) (text : List ℕ) → FitsTarget declared (Kept k) text
+    → k < length (kept_variables declared)
+kept_within declared k text fits =
+    some_within (kept_variables declared) k (slice_get (kept_variables declared) k) _ refl fits
 
 -- ---- the order of ticks
 

@@ -6,8 +6,6 @@ use Rattle.std.specs.Prelude.{slice_get}
 use Rattle.std.proofs.Math.Seq.{drop-cons}
 use Rattle.std.proofs.lemmas.Option.{slice_get_within, get_or_from_slice_get}
 use Rattle.vcd_text.specs.HeardChanges.{HeardChange}
-use Rattle.vcd_text.specs.declared.reading.heard_changes.ChangeTarget.{ChangeTarget}
-use Rattle.vcd_text.specs.declared.reading.heard_changes.ChangeTarget.TheVariants.{Kept, Skipped}
 use Rattle.vcd_compare.specs.inside.Side.{first_tick}
 
 pub not-false : (b : Bool) → not b ≡ false → b ≡ true
@@ -41,14 +39,3 @@ next_at_hand hs taken next h rest goes_on at =
 pub change_is : (hs : List HeardChange) (k : ℕ) (h g : HeardChange) (rest : List HeardChange) → slice_get hs k ≡ Some g
     → drop k hs ≡ h ∷ rest → g ≡ h
 change_is hs k h g rest there at = ap (λ (l : List HeardChange). get_or l 0 g) (sym (first_at k hs g there) ∙ at)
-
-position_of : ChangeTarget → ℕ
-position_of (Kept k) = k
-position_of (Skipped k) = k
-
-pub same_kept : (k j : ℕ) → Kept k ≡ Kept j → k ≡ j
-unfolding position_of
-same_kept k j same = ap position_of same
-
-pub kept_or_skipped : (k j : ℕ) → Kept k ≡ Skipped j → ⊥
-kept_or_skipped k j same = cc

@@ -12,6 +12,9 @@ use Rattle.vcd_text.specs.inside.reading.Parser.{ParserMatches}
 use Rattle.vcd_text.specs.inside.reading.SkippedVariables.{HasSkipped}
 use Rattle.vcd_text.specs.declared.reading.change_stream.ChangeStream.{ChangeStream}
 use Rattle.vcd_compare.specs.inside.Side.{at_hand, needs_chunk, IsSideAt, ReadsOn, ReadsToEnd, IsHeardWhole}
+use Rattle.vcd_compare.specs.inside.LeftOut.{HasCounted}
+use Rattle.vcd_compare.specs.declared.last_ticks.LastTicks.{LastTicks}
+use Rattle.vcd_compare.specs.declared.left_out.LeftOut.{LeftOut}
 use Rattle.vcd_compare.specs.declared.side.Side.{Side}
 use Rattle.vcd_compare.proofs.shared.HeardParts.{heard_none, heard_then, declared_where_heard}
 
@@ -86,17 +89,25 @@ reads_to_end coming left state heard given old new on ended stays = record {
   heard_more = on.heard_more;
   at = on.at.at;
   whole = subst (IsHeardWhole coming on.later) on.all (on.at.ended ended);
+  counted = subst (λ hs. HasCounted hs new.left_out new.last_ticks) on.all on.at.counted;
   stays = stays;
 }
 
 -- ---- the begin
 
 -- a file before its first byte
-pub nothing_read : (coming : Option (List ℕ)) (s : ChangeStream) (taken factor : ℕ) → taken ≡ length (heard_by s)
-    → HasStreamed coming coming (initial_state SIGNAL_LIMIT) [] s
-    → IsSideAt coming coming (initial_state SIGNAL_LIMIT) []
-    (record { stream = s; taken = taken; is_ended = false; factor = factor })
-nothing_read coming s taken factor all h =
+pub nothing_read : (coming : Option (List ℕ)) (s : ChangeStream) (taken factor : ℕ) (left_out : LeftOut)
+    (last_ticks : LastTicks) → taken ≡ length (heard_by s)
+    → HasStreamed coming coming (initial_state SIGNAL_LIMIT) [] s → HasCounted [] left_out last_ticks
+    → IsSideAt coming coming (initial_state SIGNAL_LIMIT) [] (record {
+      stream = s;
+      taken = taken;
+      is_ended = false;
+      factor = factor;
+      left_out = left_out;
+      last_ticks = last_ticks;
+    })
+nothing_read coming s taken factor left_out last_ticks all h counted =
     let none : drop taken (heard_by s) ≡ [] =
     at_drop_all (λ hs. hs) (heard_by s) taken (omega (arith, all)) in
     record {
@@ -109,6 +120,7 @@ nothing_read coming s taken factor all h =
           (heard_none (initial_state SIGNAL_LIMIT));
       goes_on = λ on. subst (λ hs. HasStreamed coming coming (initial_state SIGNAL_LIMIT) hs s) (sym none) h;
       ended = λ never. absurd (both_ways _ refl never);
+      counted = subst (λ hs. HasCounted hs left_out last_ticks) (sym none) counted;
     }
 
 -- where no chunk is needed, the declarations have ended

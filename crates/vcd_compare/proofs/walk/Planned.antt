@@ -1,133 +1,71 @@
--- The variables of one code have one size, so all pairs of a code are as wide as its variables.
-use Rattle.std.proofs.Common.{◌≡◌, ℕ, Bool, true, false, cond, not, ◌||◌, ◌&&◌, List, [], ◌∷◌, ◌++◌, get_or}
-use Rattle.std.proofs.Common.{Option, Some, None, IsTrue, IsSomeAnd, All, refl, sym, ap, subst, ◌∙◌, arith}
-use Rattle.std.specs.Prelude.{find, bytes_eq, ◌==◌, slice_get, option_to_list}
-use Rattle.std.proofs.lemmas.Bool.{false≢true, not-true, eqb-true}
-use Rattle.std.proofs.lemmas.Slice.Eq.{bytes_eq-Decides}
-use Rattle.std.proofs.lemmas.List.Elements.{All-nil, All-push, All-filter, All-weaker, filter_passes}
-use Rattle.std.proofs.lemmas.List.Folds.{find-append}
-use Rattle.std.proofs.lemmas.Option.{same_Some, slice_get_within, get_or_from_slice_get}
-use Rattle.vcd_text.specs.Items.{Item, entry, timescale, scope, upscope, variable, end_definitions, stamp, scalar}
-use Rattle.vcd_text.specs.Items.{vector, real_or_string, dump_word, other}
-use Rattle.vcd_text.specs.Grammar.{ParseState, VariableDeclaration, Allows, AllowsAll, state_after, state_after_item}
-use Rattle.vcd_text.specs.Grammar.{initial_state, is_skipped, kept_variables, variable_of, may_have_code}
-use Rattle.vcd_text.specs.Grammar.{declaration_of}
-use Rattle.vcd_text.specs.HeardChanges.{HeardChange, AreHeard, first_with}
+-- What the pairs are given of a change writes the letters of each signal of its variable.
+use Rattle.std.proofs.Common.{◌≡◌, ℕ, zero, suc, ◌+◌, ◌-◌, ◌*◌, ◌<◌, ◌≤◌, Bool, true, false}
+use Rattle.std.proofs.Common.{List, [], ◌∷◌, ◌++◌, length, get_or, Option, Some, None, IsSomeAnd}
+use Rattle.std.proofs.Common.{refl, sym, ap, ◌∙◌, arith}
+use Rattle.std.specs.Prelude.{slice_get}
+use Rattle.std.proofs.lemmas.Bool.{ltb-true, ltb-false}
+use Rattle.std.proofs.lemmas.Option.{same_Some, slice_get_within}
+use Rattle.vcd_text.specs.Grammar.{VariableDeclaration, kept_variables}
+use Rattle.vcd_text.specs.Letters.{extension, letters_of_digits, value_of_digits}
+use Rattle.vcd_text.specs.HeardChanges.{HeardChange, first_with, skipped_variables}
+use Rattle.vcd_text.specs.HeardLaws.{FitsTarget}
+use Rattle.vcd_text.specs.declared.reading.heard_changes.ChangeTarget.{ChangeTarget}
+use Rattle.vcd_text.specs.declared.reading.heard_changes.ChangeTarget.TheVariants.{Kept, Skipped}
 use Rattle.vcd_text.proofs.shared.FirstVariables.{first_found}
-use Rattle.vcd_text.proofs.shared.ItemTests.{has_declaration}
-use Rattle.vcd_text.proofs.shared.WordsInTurn.{by_test}
-use Rattle.vcd_compare.specs.inside.Pairs.{AreAsWide}
-use Rattle.vcd_compare.specs.inside.Walk.{ArePlanned}
+use Rattle.vcd_compare.specs.Variables.{word_of}
+use Rattle.vcd_compare.specs.inside.SignalPair.{PairWaves, letters, words}
+use Rattle.vcd_compare.specs.inside.Walk.{ArePlanned, IsPlannedPair, AreBegun, all_variables, is_kept_at}
+use Rattle.vcd_compare.specs.inside.Walk.{first_position, are_letters}
+use Rattle.vcd_compare.specs.inside.WalkSteps.{GivenFile, target_position, is_event_target, given_text}
 use Rattle.vcd_compare.specs.declared.wave_pair.Bounds.{Bounds}
 use Rattle.vcd_compare.specs.declared.pairs.Which.TheVariants.{First, Second}
 use Rattle.vcd_compare.specs.declared.pairs.SignalPair.{SignalPair}
+use Rattle.vcd_compare.proofs.walk.GivenChanges.{IsReadIn}
+use Rattle.vcd_compare.proofs.walk.OneSize.{HaveOneSize}
 
--- ---- one size for one code
+-- ---- positions among all variables
 
--- the first variable of the code has the size of this one, if it is kept
-abbrev IsAgreed : List VariableDeclaration → VariableDeclaration → Type 0
-IsAgreed ds d = is_skipped d ≡ false
-    → IsSomeAnd (find (λ (y : VariableDeclaration). bytes_eq d.code y.code) ds) (λ e. e.size ≡ d.size)
+slice_get_left : {X : Type 0} (xs ys : List X) (k : ℕ) → k < length xs → slice_get (xs ++ ys) k ≡ slice_get xs k
+slice_get_left [] ys k below = absurd (omega arith)
+slice_get_left (x ∷ xs) ys zero below = refl
+slice_get_left (x ∷ xs) ys (suc k) below = slice_get_left xs ys k (omega arith)
 
-found_further : (P : VariableDeclaration → Type 0) (p : VariableDeclaration → Bool) (xs : List VariableDeclaration)
-    (y : VariableDeclaration) → IsSomeAnd (find p xs) P → IsSomeAnd (find p (xs ++ y ∷ [])) P
-found_further P p [] y some = absurd some
-found_further P p (x ∷ xs) y some = by_test (λ b. IsSomeAnd (cond b (Some x) (find p xs)) P → IsSomeAnd
-    (cond b (Some x) (find p (xs ++ y ∷ []))) P) (p x) (λ _ h. h) (λ _ h. found_further P p xs y h) some
+slice_get_right : {X : Type 0} (xs ys : List X) (k : ℕ) → length xs ≤ k
+    → slice_get (xs ++ ys) k ≡ slice_get ys (k - length xs)
+slice_get_right [] ys k past = ap (slice_get ys) (omega arith)
+slice_get_right (x ∷ xs) ys zero past = absurd (omega arith)
+slice_get_right (x ∷ xs) ys (suc k) past = slice_get_right xs ys k (omega arith) ∙ ap (slice_get ys) (omega arith)
 
-size_shared : (s e : Bool) → ((s && false) || (not s && true && e)) ≡ true → e ≡ true
-size_shared s e h = grind (arith, false≢true)
+module _ (declared : List VariableDeclaration) (k : ℕ) (d : VariableDeclaration)
+    (at : slice_get (all_variables declared) k ≡ Some d) where
+  -- a signal is one of the kept variables
+  pub signal_there : is_kept_at declared k ≡ true → slice_get (kept_variables declared) k ≡ Some d
+  signal_there kept =
+      sym (slice_get_left (kept_variables declared) (skipped_variables declared) k (ltb-true _ _ kept)) ∙ at
 
--- one more variable
-agreed_after : (s : ParseState) (d : VariableDeclaration) → IsTrue (may_have_code (variable_of s d.code) d)
-    → All (IsAgreed s.declared) s.declared
-    → All (IsAgreed (s.declared ++ d ∷ [])) (s.declared ++ d ∷ [])
-agreed_after s d shares all =
-    All-push (IsAgreed (s.declared ++ d ∷ [])) s.declared d
-    (All-weaker (IsAgreed s.declared) (IsAgreed (s.declared ++ d ∷ [])) (λ e agrees keeps.
-    found_further (λ x. x.size ≡ e.size) (λ (y : VariableDeclaration). bytes_eq e.code y.code) s.declared d
-    (agrees keeps)) s.declared all)
-    (λ keeps. first_or_same (variable_of s d.code) refl shares keeps)
-  where
-    first_or_same : (o : Option VariableDeclaration) → variable_of s d.code ≡ o → IsTrue (may_have_code o d)
-        → is_skipped d ≡ false
-        → IsSomeAnd (find (λ (y : VariableDeclaration). bytes_eq d.code y.code) (s.declared ++ d ∷ []))
-        (λ e. e.size ≡ d.size)
-    first_or_same None none shares keeps = grind (arith, find-append, bytes_eq-Decides)
-    first_or_same (Some x) some shares keeps =
-        let here : ((is_skipped x && false) || (not (is_skipped x) && true && (x.size == d.size))) ≡ true =
-        grind arith in
-        found_further (λ e. e.size ≡ d.size) (λ (y : VariableDeclaration). bytes_eq d.code y.code) s.declared d
-        (rw some (eqb-true x.size d.size (size_shared (is_skipped x) (x.size == d.size) here)))
+  pub signal_first : is_kept_at declared k ≡ true
+      → first_position declared k d ≡ first_with d.code (kept_variables declared)
+  signal_first kept = rw kept refl
 
-agreed_declared : (s : ParseState) (o : Option VariableDeclaration)
-    → IsSomeAnd o (λ d. IsTrue (may_have_code (variable_of s d.code) d)) → All (IsAgreed s.declared) s.declared
-    → All (IsAgreed (s.declared ++ option_to_list o)) (s.declared ++ option_to_list o)
-agreed_declared s None some all = absurd some
-agreed_declared s (Some d) shares all = agreed_after s d shares all
+  -- another variable is one of the skipped ones
+  pub skipped_there : is_kept_at declared k ≡ false
+      → slice_get (skipped_variables declared) (k - length (kept_variables declared)) ≡ Some d
+  skipped_there skipped =
+      sym (slice_get_right (kept_variables declared) (skipped_variables declared) k (ltb-false _ _ skipped)) ∙ at
 
-may_declare : (s : ParseState) (words : List (List ℕ)) → Allows s (variable words)
-    → IsSomeAnd (declaration_of s words) (λ d. IsTrue (may_have_code (variable_of s d.code) d))
-may_declare s words allowed = grind (arith, has_declaration)
-
-agreed_item : (s : ParseState) (i : Item) → Allows s i → All (IsAgreed s.declared) s.declared
-    → All (IsAgreed (state_after_item s i).declared) (state_after_item s i).declared
-agreed_item s (variable words) allowed all =
-    agreed_declared s (declaration_of s words) (may_declare s words allowed) all
-agreed_item s (entry kind words) allowed all = all
-agreed_item s (timescale words) allowed all = all
-agreed_item s (scope kind words) allowed all = all
-agreed_item s upscope allowed all = all
-agreed_item s end_definitions allowed all = all
-agreed_item s (stamp digits) allowed all = all
-agreed_item s (scalar digit code) allowed all = all
-agreed_item s (vector first digits code) allowed all = all
-agreed_item s (real_or_string first text code) allowed all = all
-agreed_item s (dump_word word) allowed all = all
-agreed_item s (other word words) allowed all = all
-
-agreed_items : (s : ParseState) (is : List Item) → AllowsAll s is → All (IsAgreed s.declared) s.declared
-    → All (IsAgreed (state_after s is).declared) (state_after s is).declared
-agreed_items s [] allowed all = all
-agreed_items s (i ∷ is) (one, others) all = agreed_items (state_after_item s i) is others (agreed_item s i one all)
-
--- two kept variables of one code have one size
-abbrev pub HaveOneSize : List VariableDeclaration → Type 0
-HaveOneSize kept = (k j : ℕ) (d e : VariableDeclaration) → slice_get kept k ≡ Some d → slice_get kept j ≡ Some e
-    → d.code ≡ e.code → d.size ≡ e.size
-
-one_size : (o : Option VariableDeclaration) (n m : ℕ) → IsSomeAnd o (λ x. x.size ≡ n) → IsSomeAnd o (λ x. x.size ≡ m)
-    → n ≡ m
-one_size None n m some also = absurd some
-one_size (Some x) n m some also = sym some ∙ also
-
-kept_at : (P : VariableDeclaration → Type 0) (kept : List VariableDeclaration) (k : ℕ) (d : VariableDeclaration)
-    → All P kept → slice_get kept k ≡ Some d → P d
-kept_at P kept k d all at =
-    subst P (get_or_from_slice_get kept k d d at) (all k d (slice_get_within kept k d at))
-
-is_kept : (declared : List VariableDeclaration) (k : ℕ) (d : VariableDeclaration)
-    → slice_get (kept_variables declared) k ≡ Some d → is_skipped d ≡ false
-is_kept declared k d at =
-    not-true _ (kept_at (λ x. not (is_skipped x) ≡ true) (kept_variables declared) k d
-    (filter_passes (λ (x : VariableDeclaration). not (is_skipped x)) declared) at)
-
-pub have_one_size : (limit : ℕ) (state : ParseState) (heard : List HeardChange)
-    → AreHeard (initial_state limit) state heard → HaveOneSize (kept_variables state.declared)
-have_one_size limit state heard are k j d e at_d at_e same =
-    let all : All (IsAgreed state.declared) state.declared =
-    subst (λ (s : ParseState). All (IsAgreed s.declared) s.declared) are.state_is
-    (agreed_items (initial_state limit) are.items are.allowed (All-nil _)) in
-    let kept = All-filter (λ (x : VariableDeclaration). not (is_skipped x)) (IsAgreed state.declared) state.declared
-    all in
-    one_size (find (λ (y : VariableDeclaration). bytes_eq d.code y.code) state.declared) d.size e.size
-    (kept_at (IsAgreed state.declared) (kept_variables state.declared) k d kept at_d (is_kept state.declared k d at_d))
-    (subst (λ c. IsSomeAnd (find (λ (y : VariableDeclaration). bytes_eq c y.code) state.declared)
-    (λ x. x.size ≡ e.size)) (sym same)
-    (kept_at (IsAgreed state.declared) (kept_variables state.declared) j e kept at_e
-    (is_kept state.declared j e at_e)))
+  pub skipped_first : is_kept_at declared k ≡ false
+      → first_position declared k d
+      ≡ length (kept_variables declared) + first_with d.code (skipped_variables declared)
+  skipped_first skipped = rw skipped refl
 
 -- ---- the pairs
+
+-- what two variables of letters are before the walk
+begun_letters : (bounds : Bounds) (kept other_kept : Bool) (d e : VariableDeclaration) (width : ℕ) (waves : PairWaves)
+    → are_letters waves ≡ true → AreBegun bounds kept other_kept d e width waves
+    → (kept ≡ true) × (other_kept ≡ true) × (d.size ≡ width) × (e.size ≡ width)
+begun_letters bounds kept other_kept d e width (letters p) is begun = (begun.0, begun.1, begun.2, begun.3)
+begun_letters bounds kept other_kept d e width (words p) is begun = absurd (cc is)
 
 first_is : (kept : List VariableDeclaration) (k p j : ℕ) (own d : VariableDeclaration) → HaveOneSize kept
     → slice_get kept k ≡ Some own → p ≡ first_with own.code kept → p ≡ j → slice_get kept j ≡ Some d
@@ -138,18 +76,77 @@ first_is kept k p j own d sizes at first same there =
     same_Some f.found d (sym f.at_first ∙ ap (slice_get kept) (sym first ∙ same) ∙ there) in
     sizes k j own d at there (sym f.own_code ∙ ap (λ (x : VariableDeclaration). x.code) one)
 
-module _ (bounds : Bounds) (kept others : List VariableDeclaration) (pairs : List SignalPair)
-    (planned : ArePlanned bounds kept others pairs) (variable : ℕ) (d : VariableDeclaration) where
-  -- the pairs of a variable are as wide as it
-  pub first_wide : HaveOneSize kept → slice_get kept variable ≡ Some d → AreAsWide First variable d.size pairs
-  first_wide sizes at i default below same =
-      let p = planned i default below in
-      sym p.own_width
-      ∙ first_is kept (get_or pairs i default).first _ variable p.own d sizes p.at_first p.first_variable same at
+-- a signal at a position, with the first one of its code
+record IsSignalOf (declared : List VariableDeclaration) (width variable : ℕ) : Type 0 where
+  place : ℕ
+  own : VariableDeclaration
+  there : slice_get (kept_variables declared) place ≡ Some own
+  first : variable ≡ first_with own.code (kept_variables declared)
+  wide : own.size ≡ width
 
-  pub second_wide : HaveOneSize others → slice_get others variable ≡ Some d → AreAsWide Second variable d.size pairs
-  second_wide sizes at i default below same =
-      let p = planned i default below in
-      sym p.partner_width
-      ∙ first_is others (get_or pairs i default).second _ variable p.partner d sizes p.at_second p.second_variable same
-      at
+-- what the pairs are given of a change of its variable writes its letters
+signal_reads : (declared : List VariableDeclaration) (width variable tick : ℕ) (h : HeardChange) (target : ChangeTarget)
+    → h.target ≡ target → HaveOneSize (kept_variables declared) → FitsTarget declared target h.text
+    → IsSignalOf declared width variable
+    → variable ≡ target_position (length (kept_variables declared)) target
+    → value_of_digits width (given_text (skipped_variables declared) tick h)
+    ≡ Some (extension width (letters_of_digits h.text))
+signal_reads declared width variable tick h (Kept k) is sizes fits x same =
+    kept_reads (slice_get (kept_variables declared) k) refl fits
+  where
+    kept_reads : (o : Option VariableDeclaration) → slice_get (kept_variables declared) k ≡ o
+        → IsSomeAnd o (λ d. value_of_digits d.size h.text ≡ Some (extension d.size (letters_of_digits h.text)))
+        → value_of_digits width (given_text (skipped_variables declared) tick h)
+        ≡ Some (extension width (letters_of_digits h.text))
+    kept_reads None there some = absurd some
+    kept_reads (Some d) there some =
+        let wide : d.size ≡ width =
+        sym (first_is (kept_variables declared) x.place variable k x.own d sizes x.there x.first same there)
+        ∙ x.wide in
+        ap (λ t. value_of_digits width (word_of (is_event_target (skipped_variables declared) t) tick h.text)) is
+        ∙ ap (λ n. value_of_digits n h.text) (sym wide) ∙ some
+        ∙ ap (λ n. Some (extension n (letters_of_digits h.text))) wide
+signal_reads declared width variable tick h (Skipped k) is sizes fits x same =
+    let f = first_found x.own.code (kept_variables declared) x.place x.own x.there refl in
+    absurd (omega (arith, same, x.first, slice_get_within (kept_variables declared) _ f.found f.at_first))
+
+module _ (bounds : Bounds) (declared others : List VariableDeclaration) (p : SignalPair)
+    (plan : IsPlannedPair bounds declared others p) where
+  first_signal : are_letters p.waves ≡ true → IsSignalOf declared p.width p.first_variable
+  first_signal are =
+      let begun = begun_letters bounds _ _ plan.own plan.partner p.width p.waves are plan.begun in
+      record {
+        place = p.first;
+        own = plan.own;
+        there = signal_there declared p.first plan.own plan.at_first begun.0;
+        first = plan.first_variable ∙ signal_first declared p.first plan.own plan.at_first begun.0;
+        wide = begun.2;
+      }
+
+  second_signal : are_letters p.waves ≡ true → IsSignalOf others p.width p.second_variable
+  second_signal are =
+      let begun = begun_letters bounds _ _ plan.own plan.partner p.width p.waves are plan.begun in
+      record {
+        place = p.second;
+        own = plan.partner;
+        there = signal_there others p.second plan.partner plan.at_second begun.1;
+        first = plan.second_variable ∙ signal_first others p.second plan.partner plan.at_second begun.1;
+        wide = begun.3;
+      }
+
+-- what the pairs are given of a change of a file writes the letters of each signal
+module _ (bounds : Bounds) (f g : GivenFile) (pairs : List SignalPair)
+    (planned : ArePlanned bounds f.declared g.declared pairs) (h : HeardChange) where
+  pub first_reads : HaveOneSize (kept_variables f.declared) → FitsTarget f.declared h.target h.text
+      → (i : ℕ) (default : SignalPair) → i < length pairs → IsReadIn First f h (get_or pairs i default)
+  first_reads sizes fits i default below are same =
+      let p = get_or pairs i default in
+      signal_reads f.declared p.width p.first_variable (h.tick * f.factor) h h.target refl sizes fits
+      (first_signal bounds f.declared g.declared p (planned i default below) are) same
+
+  pub second_reads : HaveOneSize (kept_variables g.declared) → FitsTarget g.declared h.target h.text
+      → (i : ℕ) (default : SignalPair) → i < length pairs → IsReadIn Second g h (get_or pairs i default)
+  second_reads sizes fits i default below are same =
+      let p = get_or pairs i default in
+      signal_reads g.declared p.width p.second_variable (h.tick * g.factor) h h.target refl sizes fits
+      (second_signal bounds f.declared g.declared p (planned i default below) are) same

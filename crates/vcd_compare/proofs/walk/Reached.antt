@@ -1,16 +1,23 @@
 -- A walk begins, and one of its files is read on.
-use Rattle.std.proofs.Common.{◌≡◌, ℕ, ◌*◌, List, [], ◌++◌, Option, refl, sym, ap, subst, get_or}
+use Rattle.std.proofs.Common.{◌≡◌, ℕ, ◌*◌, Bool, List, [], ◌++◌, Option, refl, sym, ap, subst, subst₂, get_or}
 use Rattle.std.proofs.Common.{◌∙◌, arith, append_assoc, inl}
+use Rattle.std.specs.Prelude.{bytes_eq}
 use Rattle.std.proofs.lemmas.List.{append_cancel_left}
 use Rattle.vcd_core.specs.declared.capture.TheConstants.{SIGNAL_LIMIT}
-use Rattle.vcd_core.specs.Wave.{value_from}
-use Rattle.vcd_text.specs.Grammar.{ParseState, initial_state}
+use Rattle.vcd_core.specs.Value.{same_letters}
+use Rattle.vcd_text.specs.Grammar.{ParseState, VariableDeclaration, initial_state}
 use Rattle.vcd_text.specs.HeardChanges.{HeardChange}
 use Rattle.vcd_text.specs.HeardLaws.{TicksRise}
 use Rattle.vcd_text.proofs.shared.HeardMeaning.{heard_rise}
+use Rattle.vcd_compare.specs.Variables.{last_value}
 use Rattle.vcd_compare.specs.inside.Side.{at_hand, IsSideAt, ReadsOn}
-use Rattle.vcd_compare.specs.inside.WalkSteps.{scaled_ticks, scaled_changes, IsWalkStart, IsWalkAt, IsSideSince}
-use Rattle.vcd_compare.specs.inside.WalkSteps.{ArePairsAt}
+use Rattle.vcd_compare.specs.inside.SignalPair.{PairWaves, letters, words}
+use Rattle.vcd_compare.specs.inside.Walk.{IsBegun, AreBegun}
+use Rattle.vcd_compare.specs.inside.WalkSteps.{scaled_ticks, IsWalkStart, IsWalkAt, IsSideSince, given_file}
+use Rattle.vcd_compare.specs.inside.WalkSteps.{GivenFile, HeardVariable, own_changes, signal_heard, skipped_heard}
+use Rattle.vcd_compare.specs.inside.WalkSteps.{IsWavePairSince, ArePairWavesAt, ArePairsAt}
+use Rattle.vcd_compare.specs.declared.wave_pair.Bounds.{Bounds}
+use Rattle.vcd_compare.specs.declared.wave_pair.WavePair.{WavePair}
 use Rattle.vcd_compare.specs.declared.pairs.SignalPair.{SignalPair}
 use Rattle.vcd_compare.specs.declared.side.Side.{Side}
 use Rattle.vcd_compare.specs.declared.walk.Walk.{Walk}
@@ -50,6 +57,32 @@ side_reached coming middle left s given floor start old new at same on =
 
 -- ---- the walk
 
+-- two waves at the first tick of the window, of which no change was given
+begun_since : {V : Type 0} (same : V → V → Bool) (bounds : Bounds) (v w : HeardVariable V) (p : WavePair V)
+    → w.before ≡ v.before → IsBegun bounds v.before p → IsWavePairSince same bounds 0 v w [] [] p
+begun_since same bounds v w p one begun last left other_left upto from other_from =
+    let tick = begun.tick in
+    record {
+      found = record { from = omega (arith, tick); upto = inl tick };
+      a = λ at later. ap (λ x. last_value x (own_changes v left) at) (sym begun.a);
+      b = λ at later. ap (λ x. last_value x (own_changes w other_left) at) (one ∙ sym begun.b);
+      within = omega (arith, tick);
+    }
+
+waves_begun : (bounds : Bounds) (f g : GivenFile) (kept other_kept : Bool) (d e : VariableDeclaration)
+    (p : SignalPair) (waves : PairWaves) → f.given ≡ [] → g.given ≡ []
+    → AreBegun bounds kept other_kept d e p.width waves → ArePairWavesAt bounds 0 f g p waves
+waves_begun bounds f g kept other_kept d e p (letters waves) none other_none begun =
+    subst₂ (λ hs ks. IsWavePairSince same_letters bounds 0 (signal_heard f p.width p.first_variable)
+    (signal_heard g p.width p.second_variable) hs ks waves) (sym none) (sym other_none)
+    (begun_since same_letters bounds (signal_heard f p.width p.first_variable)
+    (signal_heard g p.width p.second_variable) waves refl begun.4)
+waves_begun bounds f g kept other_kept d e p (words waves) none other_none begun =
+    subst₂ (λ hs ks. IsWavePairSince bytes_eq bounds 0 (skipped_heard f p.first_variable)
+    (skipped_heard g p.second_variable) hs ks waves) (sym none) (sym other_none)
+    (begun_since bytes_eq bounds (skipped_heard f p.first_variable) (skipped_heard g p.second_variable) waves refl
+    begun.2)
+
 -- nothing was given yet
 pub walk_starts : (most : ℕ) (coming other left other_left : Option (List ℕ)) (s t : ParseState) (w : Walk)
     → IsWalkStart coming other left other_left s t w → IsWalkAt most coming other left other_left s t w w
@@ -67,19 +100,11 @@ walk_starts most coming other left other_left s t w start = record {
     each = λ i default below.
         let p = plan.planned i default below in
         let pair : SignalPair = get_or w.pairs.all.items i default in
-        let tick = p.tick in
         record {
           others = refl;
-          compared = λ last left_a left_b upto from other_from. record {
-            found = record { from = omega (arith, tick); upto = inl tick };
-            a = λ at later.
-                ap (λ v. value_from v (scaled_changes w.first.factor pair.width pair.first_variable left_a) at)
-                (sym p.a);
-            b = λ at later.
-                ap (λ v. value_from v (scaled_changes w.second.factor pair.width pair.second_variable left_b) at)
-                (sym p.b);
-            within = omega (arith, tick);
-          };
+          kind = refl;
+          compared = waves_begun w.pairs.bounds (given_file s w.first []) (given_file t w.second []) _ _ p.own p.partner
+              pair pair.waves refl refl p.begun;
         };
   };
 }
@@ -99,7 +124,8 @@ module _ (most : ℕ) (coming other left middle other_left : Option (List ℕ)) 
     second = at.second;
     bounds = at.bounds;
     listed = at.listed;
-    pairs = λ plan. subst (λ f. ArePairsAt start.pairs.bounds f old.second.factor at.floor at.given at.other_given
+    pairs = λ plan. subst (λ f. ArePairsAt start.pairs.bounds at.floor
+        (record { factor = f; declared = s.declared; given = at.given }) (given_file t old.second at.other_given)
         start.pairs.all.items old.pairs.all.items) (sym same) (at.pairs plan);
   }
 
@@ -117,6 +143,7 @@ module _ (most : ℕ) (coming other left middle other_left : Option (List ℕ)) 
     second = side_reached other middle left t at.other_given at.floor start.second old.second new at.second same on;
     bounds = at.bounds;
     listed = at.listed;
-    pairs = λ plan. subst (λ f. ArePairsAt start.pairs.bounds old.first.factor f at.floor at.given at.other_given
+    pairs = λ plan. subst (λ f. ArePairsAt start.pairs.bounds at.floor (given_file s old.first at.given)
+        (record { factor = f; declared = t.declared; given = at.other_given })
         start.pairs.all.items old.pairs.all.items) (sym same) (at.pairs plan);
   }

@@ -1,31 +1,33 @@
 -- The walk takes the next change of a file.
-use Rattle.std.proofs.Common.{◌≡◌, ℕ, ◌≤◌, ◌*◌, List, [], ◌∷◌, ◌++◌, length, Option, Some, None, min}
+use Rattle.std.proofs.Common.{◌≡◌, ℕ, ◌≤◌, ◌<◌, ◌*◌, List, [], ◌∷◌, ◌++◌, length, Option, Some, None, min}
 use Rattle.std.proofs.Common.{refl, sym, ap, subst, ◌∙◌, arith, append_assoc, All}
-use Rattle.std.specs.Prelude.{slice_get, IsTrue, IsSomeAnd, IfSome}
+use Rattle.std.specs.Prelude.{IsTrue, IfSome}
 use Rattle.std.proofs.Math.Seq.{get_or-append_seam}
 use Rattle.std.proofs.lemmas.List.{length-append}
-use Rattle.std.proofs.lemmas.Option.{same_Some, slice_get_within}
+use Rattle.std.proofs.lemmas.Option.{same_Some}
 use Rattle.vcd_core.specs.declared.capture.TheConstants.{SIGNAL_LIMIT}
-use Rattle.vcd_text.specs.Letters.{extension, letters_of_digits, value_of_digits}
 use Rattle.vcd_text.specs.Grammar.{VariableDeclaration, ParseState, initial_state, kept_variables}
-use Rattle.vcd_text.specs.HeardChanges.{HeardChange, AreHeard}
+use Rattle.vcd_text.specs.HeardChanges.{HeardChange, AreHeard, skipped_variables}
 use Rattle.vcd_text.specs.HeardLaws.{TicksRise, FitsTarget}
 use Rattle.vcd_text.specs.inside.reading.ChangeStream.{HasStreamed}
 use Rattle.vcd_text.specs.declared.reading.heard_changes.ChangeTarget.{ChangeTarget}
 use Rattle.vcd_text.specs.declared.reading.heard_changes.ChangeTarget.TheVariants.{Kept, Skipped}
 use Rattle.vcd_text.proofs.shared.HeardMeaning.{heard_fit, declarations_stay}
-use Rattle.vcd_compare.specs.inside.Pairs.{ArePairsAfter, AreListed}
+use Rattle.vcd_compare.specs.inside.Pairs.{ArePairsAfter}
+use Rattle.vcd_compare.specs.inside.LeftOut.{HasCounted}
 use Rattle.vcd_compare.specs.inside.Side.{at_hand, first_tick, IsHeardWhole}
-use Rattle.vcd_compare.specs.inside.WalkSteps.{scaled_ticks, IsPlan, IsWalkAt, IsSideSince, IsNextChange}
-use Rattle.vcd_compare.specs.inside.WalkSteps.{AreGiven, ArePairsAt, IsLast}
+use Rattle.vcd_compare.specs.inside.Walk.{all_variables}
+use Rattle.vcd_compare.specs.inside.WalkSteps.{scaled_ticks, IsPlan, IsWalkAt, IsSideSince, IsNextChange, IsLast}
+use Rattle.vcd_compare.specs.inside.WalkSteps.{AreGiven, IsGiven, given_file, given_text, target_position}
 use Rattle.vcd_compare.specs.inside.WalkSteps.{earlier_tick}
 use Rattle.vcd_compare.specs.declared.pairs.Pairs.{Pairs}
 use Rattle.vcd_compare.specs.declared.pairs.Which.TheVariants.{First, Second}
 use Rattle.vcd_compare.specs.declared.side.Side.{Side}
 use Rattle.vcd_compare.specs.declared.walk.Walk.{Walk}
+use Rattle.vcd_compare.proofs.shared.HeardParts.{kept_within}
 use Rattle.vcd_compare.proofs.walk.GivenChanges.{all_first_given, all_second_given}
-use Rattle.vcd_compare.proofs.walk.GivenChanges.{first_passed, second_passed}
-use Rattle.vcd_compare.proofs.walk.Planned.{HaveOneSize, have_one_size, first_wide, second_wide}
+use Rattle.vcd_compare.proofs.walk.OneSize.{HaveOneSize, have_one_size}
+use Rattle.vcd_compare.proofs.walk.Planned.{first_reads, second_reads}
 
 -- ---- a file
 
@@ -56,6 +58,7 @@ module _ (coming left : Option (List ℕ)) (s : ParseState) (given : List HeardC
             goes_on = λ goes. subst (λ hs. HasStreamed coming left later hs old.stream) (sym moved)
                 (at.on.at.goes_on goes);
             ended = λ ended. subst (IsHeardWhole coming later) (sym moved) (at.on.at.ended ended);
+            counted = subst (λ hs. HasCounted hs old.left_out old.last_ticks) (sym moved) at.on.at.counted;
           };
           all = moved ∙ at.on.all;
         };
@@ -108,56 +111,45 @@ tick_at factor tick h rest hs was of = same_Some _ _ (sym (ap (first_tick factor
 
 -- ---- the variable of a change
 
--- the first variable of a change: a kept one, of which the text writes a value, or a skipped one
-data IsFitting (kept : List VariableDeclaration) (h : HeardChange) : Type 0 where
-  of_kept : (variable : ℕ) (d : VariableDeclaration) → h.target ≡ Kept variable → slice_get kept variable ≡ Some d
-      → value_of_digits d.size h.text ≡ Some (extension d.size (letters_of_digits h.text)) → HaveOneSize kept
-      → IsFitting kept h
-  of_skipped : (position : ℕ) → h.target ≡ Skipped position → IsFitting kept h
-
-some_and : (declared : List VariableDeclaration) (h : HeardChange) (variable : ℕ) (o : Option VariableDeclaration)
-    → slice_get (kept_variables declared) variable ≡ o → h.target ≡ Kept variable
-    → HaveOneSize (kept_variables declared)
-    → IsSomeAnd o (λ d. value_of_digits d.size h.text ≡ Some (extension d.size (letters_of_digits h.text)))
-    → IsFitting (kept_variables declared) h
-some_and declared h variable None there target sizes fits = absurd fits
-some_and declared h variable (Some d) there target sizes fits = of_kept variable d target there fits sizes
-
-by_target : (declared : List VariableDeclaration) (h : HeardChange) (target : ChangeTarget) → h.target ≡ target
-    → HaveOneSize (kept_variables declared) → FitsTarget declared target h.text → IsFitting (kept_variables declared) h
-by_target declared h (Kept k) is sizes fits =
-    some_and declared h k (slice_get (kept_variables declared) k) refl is sizes fits
-by_target declared h (Skipped k) is sizes fits = of_skipped k is
-
 all_middle : (P : HeardChange → Type 0) (xs : List HeardChange) (y : HeardChange) (ys : List HeardChange)
     → All P (xs ++ y ∷ ys) → P y
 all_middle P xs y ys all =
     subst P (get_or-append_seam xs y ys y) (all (length xs) y (omega (arith, length-append xs (y ∷ ys))))
 
+-- a change of a file fits the declarations
+record IsFitting (declared : List VariableDeclaration) (h : HeardChange) : Type 0 where
+  sizes : HaveOneSize (kept_variables declared)
+  fits : FitsTarget declared h.target h.text
+
 fitting : (state later : ParseState) (more given rest all : List HeardChange) (h : HeardChange) → IsTrue state.in_body
     → AreHeard state later more → AreHeard (initial_state SIGNAL_LIMIT) later (given ++ all) → all ≡ h ∷ rest
-    → IsFitting (kept_variables state.declared) h
+    → IsFitting state.declared h
 fitting state later more given rest all h in_body on heard was =
     let same = (declarations_stay state later more on in_body).1 in
     let whole = subst (λ l. AreHeard (initial_state SIGNAL_LIMIT) later (given ++ l)) was heard in
-    subst (λ ds. IsFitting (kept_variables ds) h) same
-    (by_target later.declared h h.target refl (have_one_size SIGNAL_LIMIT later (given ++ h ∷ rest) whole)
-    (all_middle (λ g. FitsTarget later.declared g.target g.text) given h rest
-    (heard_fit SIGNAL_LIMIT later (given ++ h ∷ rest) whole)))
+    subst (λ ds. IsFitting ds h) same (record {
+      sizes = have_one_size SIGNAL_LIMIT later (given ++ h ∷ rest) whole;
+      fits = all_middle (λ g. FitsTarget later.declared g.target g.text) given h rest
+          (heard_fit SIGNAL_LIMIT later (given ++ h ∷ rest) whole);
+    })
+
+-- its variable is one of all
+placed_within : (declared : List VariableDeclaration) (target : ChangeTarget) (text : List ℕ)
+    → FitsTarget declared target text
+    → target_position (length (kept_variables declared)) target < length (all_variables declared)
+placed_within declared (Kept k) text fits =
+    let below = kept_within declared k text fits in
+    omega (arith, below, length-append (kept_variables declared) (skipped_variables declared))
+placed_within declared (Skipped k) text fits =
+    omega (arith, fits, length-append (kept_variables declared) (skipped_variables declared))
 
 -- ---- the pairs
 
 module _ (coming other left other_left : Option (List ℕ)) (s t : ParseState) (start old : Walk) (most tick k : ℕ)
     (pairs : Pairs) (h : HeardChange) (rest : List HeardChange)
     (at : IsWalkAt most coming other left other_left s t start old) where
-  abbrev kept : List VariableDeclaration
-  kept = kept_variables s.declared
-
-  abbrev other_kept : List VariableDeclaration
-  other_kept = kept_variables t.declared
-
   pub first_taken : IsNextChange most First tick old → at_hand old.first ≡ h ∷ rest
-      → at_hand (record old.first { taken = k }) ≡ rest → AreGiven First tick h old.pairs pairs
+      → at_hand (record old.first { taken = k }) ≡ rest → IsGiven at.first.on.later First tick h old.pairs pairs
       → IsWalkAt most coming other left other_left s t start
       (record { first = record old.first { taken = k }; second = old.second; pairs = pairs })
   first_taken next was now gives =
@@ -166,7 +158,14 @@ module _ (coming other left other_left : Option (List ℕ)) (s t : ParseState) (
       let by = next.by at.first.on.later at.second.on.later at.first.on.at.at at.second.on.at.at in
       let fits = λ (plan : IsPlan s t start). fitting s at.first.on.later at.first.on.more at.given rest
       (at_hand old.first) h plan.declared at.first.on.heard_more at.first.on.at.heard was in
-      let given = subst (λ n. AreGiven First n h old.pairs pairs) is gives in
+      let file = given_file s old.first at.given in
+      let other_file = given_file t old.second at.other_given in
+      let given = λ (plan : IsPlan s t start).
+      subst (λ ds. AreGiven First (target_position (length (kept_variables ds)) h.target) (h.tick * factor)
+      (given_text (skipped_variables ds) (h.tick * factor) h) old.pairs pairs)
+      (declarations_stay s at.first.on.later at.first.on.more at.first.on.heard_more plan.declared).1
+      (subst (λ n. IsGiven at.first.on.later First n h old.pairs pairs) is gives) in
+      let within = λ (plan : IsPlan s t start). placed_within s.declared h.target h.text (fits plan).fits in
       record {
         given = at.given ++ h ∷ [];
         other_given = at.other_given;
@@ -177,38 +176,20 @@ module _ (coming other left other_left : Option (List ℕ)) (s t : ParseState) (
             (h.tick * factor) (omega (arith, is, by))
             (subst (λ n. IfSome (first_tick old.second.factor (at_hand old.second)) (λ m. n ≤ m)) is
             (first_is_early _ _ tick next.is next.of));
-        bounds = given.bounds ∙ at.bounds;
-        listed = λ plan.
-            elim (fits plan) [
-              | of_kept variable d target there reads sizes ↦
-                  given.listed variable _ _ target (at.listed plan) (slice_get_within kept variable d there)
-              | of_skipped position target ↦
-                  subst (AreListed (length kept) (length other_kept)) (sym (given.passed position target))
-                  (at.listed plan)
-            ];
+        bounds = gives.bounds ∙ at.bounds;
+        listed = λ plan. (given plan).listed _ _ (at.listed plan) (within plan);
         pairs = λ plan.
-            let later = next_from coming left s at.given at.floor start.first old.first at.first h rest was in
-            elim (fits plan) [
-              | of_kept variable d target there reads sizes ↦
-                  let wide = first_wide start.pairs.bounds kept other_kept start.pairs.all.items plan.planned variable d
-                  sizes there in
-                  all_first_given start.pairs.bounds factor old.second.factor at.floor at.given at.other_given h
-                  variable d.size target reads start.pairs.all.items old.pairs.all.items pairs.all.items later wide
-                  (at.pairs plan)
-                  (subst (λ b. ArePairsAfter b First variable (h.tick * factor) h.text old.pairs.all.items
-                  pairs.all.items) at.bounds (given.changed variable (length kept) (length other_kept) target
-                  (at.listed plan) (slice_get_within kept variable d there)))
-              | of_skipped position target ↦
-                  first_passed start.pairs.bounds factor old.second.factor at.floor at.given at.other_given h position
-                  target start.pairs.all.items pairs.all.items later
-                  (subst (λ (p : Pairs). ArePairsAt start.pairs.bounds factor old.second.factor at.floor at.given
-                  at.other_given start.pairs.all.items p.all.items) (sym (given.passed position target))
-                  (at.pairs plan))
-            ];
+            all_first_given start.pairs.bounds at.floor file other_file h start.pairs.all.items old.pairs.all.items
+            pairs.all.items (next_from coming left s at.given at.floor start.first old.first at.first h rest was)
+            (first_reads start.pairs.bounds file other_file start.pairs.all.items plan.planned h (fits plan).sizes
+            (fits plan).fits) (at.pairs plan)
+            (subst (λ b. ArePairsAfter b First (target_position (length (kept_variables s.declared)) h.target)
+            (h.tick * factor) (given_text (skipped_variables s.declared) (h.tick * factor) h) old.pairs.all.items
+            pairs.all.items) at.bounds ((given plan).changed _ _ (at.listed plan) (within plan)));
       }
 
   pub second_taken : IsNextChange most Second tick old → at_hand old.second ≡ h ∷ rest
-      → at_hand (record old.second { taken = k }) ≡ rest → AreGiven Second tick h old.pairs pairs
+      → at_hand (record old.second { taken = k }) ≡ rest → IsGiven at.second.on.later Second tick h old.pairs pairs
       → IsWalkAt most coming other left other_left s t start
       (record { first = old.first; second = record old.second { taken = k }; pairs = pairs })
   second_taken next was now gives =
@@ -217,7 +198,14 @@ module _ (coming other left other_left : Option (List ℕ)) (s t : ParseState) (
       let by = next.by at.first.on.later at.second.on.later at.first.on.at.at at.second.on.at.at in
       let fits = λ (plan : IsPlan s t start). fitting t at.second.on.later at.second.on.more at.other_given rest
       (at_hand old.second) h plan.other_declared at.second.on.heard_more at.second.on.at.heard was in
-      let given = subst (λ n. AreGiven Second n h old.pairs pairs) is gives in
+      let file = given_file s old.first at.given in
+      let other_file = given_file t old.second at.other_given in
+      let given = λ (plan : IsPlan s t start).
+      subst (λ ds. AreGiven Second (target_position (length (kept_variables ds)) h.target) (h.tick * factor)
+      (given_text (skipped_variables ds) (h.tick * factor) h) old.pairs pairs)
+      (declarations_stay t at.second.on.later at.second.on.more at.second.on.heard_more plan.other_declared).1
+      (subst (λ n. IsGiven at.second.on.later Second n h old.pairs pairs) is gives) in
+      let within = λ (plan : IsPlan s t start). placed_within t.declared h.target h.text (fits plan).fits in
       record {
         given = at.given;
         other_given = at.other_given ++ h ∷ [];
@@ -229,35 +217,17 @@ module _ (coming other left other_left : Option (List ℕ)) (s t : ParseState) (
             (second_is_early _ _ tick next.is next.of));
         second = side_taken other other_left t at.other_given at.floor start.second old.second at.second k h rest was
             now;
-        bounds = given.bounds ∙ at.bounds;
-        listed = λ plan.
-            elim (fits plan) [
-              | of_kept variable d target there reads sizes ↦
-                  given.listed variable _ _ target (at.listed plan) (slice_get_within other_kept variable d there)
-              | of_skipped position target ↦
-                  subst (AreListed (length kept) (length other_kept)) (sym (given.passed position target))
-                  (at.listed plan)
-            ];
+        bounds = gives.bounds ∙ at.bounds;
+        listed = λ plan. (given plan).listed _ _ (at.listed plan) (within plan);
         pairs = λ plan.
-            let later = next_from other other_left t at.other_given at.floor start.second old.second at.second h rest
-            was in
-            elim (fits plan) [
-              | of_kept variable d target there reads sizes ↦
-                  let wide = second_wide start.pairs.bounds kept other_kept start.pairs.all.items plan.planned variable
-                  d sizes there in
-                  all_second_given start.pairs.bounds old.first.factor factor at.floor at.given at.other_given h
-                  variable d.size target reads start.pairs.all.items old.pairs.all.items pairs.all.items later wide
-                  (at.pairs plan)
-                  (subst (λ b. ArePairsAfter b Second variable (h.tick * factor) h.text old.pairs.all.items
-                  pairs.all.items) at.bounds (given.changed variable (length kept) (length other_kept) target
-                  (at.listed plan) (slice_get_within other_kept variable d there)))
-              | of_skipped position target ↦
-                  second_passed start.pairs.bounds old.first.factor factor at.floor at.given at.other_given h position
-                  target start.pairs.all.items pairs.all.items later
-                  (subst (λ (p : Pairs). ArePairsAt start.pairs.bounds old.first.factor factor at.floor at.given
-                  at.other_given start.pairs.all.items p.all.items) (sym (given.passed position target))
-                  (at.pairs plan))
-            ];
+            all_second_given start.pairs.bounds at.floor file other_file h start.pairs.all.items old.pairs.all.items
+            pairs.all.items
+            (next_from other other_left t at.other_given at.floor start.second old.second at.second h rest was)
+            (second_reads start.pairs.bounds file other_file start.pairs.all.items plan.planned h (fits plan).sizes
+            (fits plan).fits) (at.pairs plan)
+            (subst (λ b. ArePairsAfter b Second (target_position (length (kept_variables t.declared)) h.target)
+            (h.tick * factor) (given_text (skipped_variables t.declared) (h.tick * factor) h) old.pairs.all.items
+            pairs.all.items) at.bounds ((given plan).changed _ _ (at.listed plan) (within plan)));
       }
 
 -- a file with a next tick has a change at hand

@@ -1,24 +1,31 @@
 -- What the pairs hold at the ends of both files, once no other change was to be given.
-use Rattle.std.proofs.Common.{◌≡◌, ℕ, ◌+◌, ◌<◌, ◌≤◌, ◌*◌, suc, List, [], ◌∷◌, ◌++◌, length, get_or, Option, Some, None}
-use Rattle.std.proofs.Common.{min}
-use Rattle.std.proofs.Common.{refl, sym, ap, subst, ◌∙◌, arith, append_assoc, false, true, inl, inr}
-use Rattle.std.specs.Prelude.{slice_get, IfSome}
+use Rattle.std.proofs.Common.{◌≡◌, ℕ, ◌+◌, ◌-◌, ◌<◌, ◌≤◌, ◌*◌, suc, min, Bool, false, true, List, [], ◌∷◌, ◌++◌}
+use Rattle.std.proofs.Common.{length, get_or, Option, Some, None}
+use Rattle.std.proofs.Common.{refl, sym, ap, ap₂, subst, subst₂, ◌∙◌, arith, append_assoc, inl, inr}
+use Rattle.std.specs.Prelude.{slice_get, IfSome, bytes_eq}
 use Rattle.std.specs.List.{AllZip}
 use Rattle.std.proofs.lemmas.Bool.{cases_Bool}
 use Rattle.std.proofs.lemmas.Option.{same_Some}
 use Rattle.vcd_core.specs.declared.capture.TheConstants.{SIGNAL_LIMIT}
 use Rattle.vcd_core.specs.Value.{same_letters}
 use Rattle.vcd_text.specs.Grammar.{VariableDeclaration, ParseState, initial_state, kept_variables}
-use Rattle.vcd_text.specs.HeardChanges.{HeardChange, AreHeard, first_with}
+use Rattle.vcd_text.specs.HeardChanges.{HeardChange, AreHeard}
 use Rattle.vcd_text.specs.HeardLaws.{TicksRise}
 use Rattle.vcd_text.proofs.shared.HeardMeaning.{heard_rise, declarations_stay}
+use Rattle.vcd_compare.specs.Differences.{WaveByTicks}
+use Rattle.vcd_compare.specs.inside.LeftOut.{HasCounted}
 use Rattle.vcd_compare.specs.inside.WavePair.{HasFoundBefore, HasValueUntil}
 use Rattle.vcd_compare.specs.inside.Side.{at_hand, first_tick, needs_chunk, ReadsToEnd, IsHeardWhole}
-use Rattle.vcd_compare.specs.inside.Walk.{IsPlannedPair, ArePlanned, IsWalkedPair, AreWalked, wave_of}
-use Rattle.vcd_compare.specs.inside.WalkSteps.{scaled_changes, wave_heard, scaled_ticks, AllHeardFrom, IsPairAt}
-use Rattle.vcd_compare.specs.inside.WalkSteps.{ArePairsAt, IsWalkAt, IsWalkOver, IsLast, HasWalked}
-use Rattle.vcd_compare.specs.inside.WalkSteps.{earlier_tick}
+use Rattle.vcd_compare.specs.inside.SignalPair.{PairWaves, letters, words}
+use Rattle.vcd_compare.specs.inside.Walk.{IsPlannedPair, ArePlanned, IsWalkedPair, AreWalked, AreBegun, WholeFile}
+use Rattle.vcd_compare.specs.inside.Walk.{IsComparedUpTo, AreComparedUpTo, wave_of, word_wave_of, all_variables}
+use Rattle.vcd_compare.specs.inside.Walk.{is_kept_at, first_position, are_letters}
+use Rattle.vcd_compare.specs.inside.WalkSteps.{HeardVariable, own_changes, wave_heard, scaled_ticks, AllHeardFrom}
+use Rattle.vcd_compare.specs.inside.WalkSteps.{GivenFile, given_file, signal_heard, skipped_heard, IsWavePairSince}
+use Rattle.vcd_compare.specs.inside.WalkSteps.{ArePairWavesAt, IsPairAt, ArePairsAt, IsWalkAt, IsWalkOver, IsLast}
+use Rattle.vcd_compare.specs.inside.WalkSteps.{HasWalked, earlier_tick}
 use Rattle.vcd_compare.specs.declared.wave_pair.Bounds.{Bounds}
+use Rattle.vcd_compare.specs.declared.wave_pair.WavePair.{WavePair}
 use Rattle.vcd_compare.specs.declared.pairs.Pairs.{Pairs}
 use Rattle.vcd_compare.specs.declared.pairs.SignalPair.{SignalPair}
 use Rattle.vcd_compare.specs.declared.side.Side.{Side}
@@ -27,7 +34,8 @@ use Rattle.vcd_compare.proofs.pairs.PairSteps.{keeps_a, keeps_b}
 use Rattle.vcd_compare.proofs.shared.HeardParts.{heard_then, rise_bounds, rise_then, rise_scaled}
 use Rattle.vcd_compare.proofs.side.ReadOn.{some_at_hand}
 use Rattle.vcd_compare.proofs.walk.GivenChanges.{all_from, from_earlier, changes_from}
-use Rattle.vcd_compare.proofs.walk.Scaled.{wave_is_heard}
+use Rattle.vcd_compare.proofs.walk.Planned.{signal_there, signal_first, skipped_there, skipped_first}
+use Rattle.vcd_compare.proofs.walk.Scaled.{signal_wave, word_wave}
 
 -- ---- what is left is late
 
@@ -67,77 +75,133 @@ module _ (most factor other_factor floor : ℕ) (state later other other_later :
       (rise_then factor tick (state.tick * factor) (later.tick * factor) (h ∷ rest) more (omega arith, rise)
       (rise_scaled factor state.tick later.tick more (heard_rise state later more heard))))
 
+-- ---- two waves
+
+module _ {V : Type 0} (same : V → V → Bool) (bounds : Bounds) (floor last : ℕ) (v w : HeardVariable V)
+    (given other_given left other_left : List HeardChange) (upto : floor ≤ last)
+    (late : AllHeardFrom v.factor (last + 1) left) (other_late : AllHeardFrom w.factor (last + 1) other_left) where
+  waves_compared : (wave other : WaveByTicks V) (p : WavePair V) → wave ≡ wave_heard v (given ++ left)
+      → other ≡ wave_heard w (other_given ++ other_left)
+      → IsWavePairSince same bounds floor v w given other_given p → IsComparedUpTo same bounds last wave other p
+  waves_compared wave other p is other_is at =
+      let pair = at last left other_left upto (from_earlier v.factor floor (last + 1) left (omega (arith, upto)) late)
+      (from_earlier w.factor floor (last + 1) other_left (omega (arith, upto)) other_late) in
+      let heard : WaveByTicks V = wave_heard v (given ++ left) in
+      let other_heard : WaveByTicks V = wave_heard w (other_given ++ other_left) in
+      let left_a = own_changes v left in
+      let left_b = own_changes w other_left in
+      record {
+        found = subst₂ (λ x y. HasFoundBefore same bounds.tolerance x y bounds.first p) (sym is) (sym other_is)
+            pair.found;
+        within = pair.within;
+        a = subst (λ x. HasValueUntil x p.tick (last + 1) p.a) (sym is)
+            (keeps_a same bounds last heard other_heard left_a left_b (last + 1) p pair
+            (changes_from v (last + 1) left late));
+        b = subst (λ y. HasValueUntil y p.tick (last + 1) p.b) (sym other_is)
+            (keeps_b same bounds last heard other_heard left_a left_b (last + 1) p pair
+            (changes_from w (last + 1) other_left other_late));
+      }
+
+-- ---- a variable
+
+-- a file that was read to its end, of which these changes were given, and these are left
+module _ (f : GivenFile) (s : ParseState) (left : List HeardChange) (same : f.declared ≡ s.declared)
+    (heard : AreHeard (initial_state SIGNAL_LIMIT) s (f.given ++ left)) (k : ℕ) (d : VariableDeclaration)
+    (at : slice_get (all_variables s.declared) k ≡ Some d) (own : VariableDeclaration) (own_is : own ≡ d)
+    (variable : ℕ) (first : variable ≡ first_position f.declared k own) where
+  kept_is : (kept : Bool) → is_kept_at f.declared k ≡ kept → is_kept_at s.declared k ≡ kept
+  kept_is kept is = ap (λ ds. is_kept_at ds k) (sym same) ∙ is
+
+  variable_is : variable ≡ first_position s.declared k d
+  variable_is = first ∙ (λ i. first_position (same i) k (own_is i))
+
+  signal_is : (width : ℕ) → 1 ≤ f.factor → is_kept_at f.declared k ≡ true → own.size ≡ width
+      → wave_of f.factor s d ≡ wave_heard (signal_heard f width variable) (f.given ++ left)
+  signal_is width some kept wide =
+      let there = signal_there s.declared k d at (kept_is true kept) in
+      signal_wave SIGNAL_LIMIT s (f.given ++ left) heard k d there f same some
+      ∙ ap₂ (λ n p. wave_heard (signal_heard f n p) (f.given ++ left))
+      (ap (λ (x : VariableDeclaration). x.size) (sym own_is) ∙ wide)
+      (sym (variable_is ∙ signal_first s.declared k d at (kept_is true kept)))
+
+  word_is : is_kept_at f.declared k ≡ false
+      → word_wave_of f.factor (record { state = s; heard = f.given ++ left }) d
+      ≡ wave_heard (skipped_heard f variable) (f.given ++ left)
+  word_is skipped =
+      let there = skipped_there s.declared k d at (kept_is false skipped) in
+      word_wave SIGNAL_LIMIT s (f.given ++ left) heard (k - length (kept_variables s.declared)) d there f same
+      ∙ ap (λ p. wave_heard (skipped_heard f p) (f.given ++ left))
+      (sym (variable_is ∙ skipped_first s.declared k d at (kept_is false skipped)))
+
 -- ---- a pair
 
-module _ (bounds : Bounds) (factor other_factor floor last : ℕ) (s t : ParseState)
-    (kept others : List VariableDeclaration) (given other_given left other_left : List HeardChange)
-    (some : 1 ≤ factor) (other_some : 1 ≤ other_factor) (kept_is : kept_variables s.declared ≡ kept)
-    (others_are : kept_variables t.declared ≡ others)
-    (heard : AreHeard (initial_state SIGNAL_LIMIT) s (given ++ left))
-    (other_heard : AreHeard (initial_state SIGNAL_LIMIT) t (other_given ++ other_left))
-    (upto : floor ≤ last) (late : AllHeardFrom factor (last + 1) left)
-    (other_late : AllHeardFrom other_factor (last + 1) other_left) where
-  pair_walked : (old new : SignalPair) → IsPlannedPair bounds kept others old
-      → IsPairAt bounds factor other_factor floor given other_given old new
-      → IsWalkedPair bounds last factor other_factor s t old new
+-- the declarations stay, so what stands at a position is the same
+declared_one : (before after : List VariableDeclaration) → before ≡ after → (k : ℕ) (own d : VariableDeclaration)
+    → slice_get (all_variables before) k ≡ Some own → slice_get (all_variables after) k ≡ Some d → own ≡ d
+declared_one before after same k own d at at_d =
+    same_Some own d (sym at ∙ ap (λ ds. slice_get (all_variables ds) k) same ∙ at_d)
+
+module _ (bounds : Bounds) (floor last : ℕ) (f g : GivenFile) (s t : ParseState)
+    (left other_left : List HeardChange) (some : 1 ≤ f.factor) (other_some : 1 ≤ g.factor)
+    (same : f.declared ≡ s.declared) (other_same : g.declared ≡ t.declared)
+    (heard : AreHeard (initial_state SIGNAL_LIMIT) s (f.given ++ left))
+    (other_heard : AreHeard (initial_state SIGNAL_LIMIT) t (g.given ++ other_left))
+    (upto : floor ≤ last) (late : AllHeardFrom f.factor (last + 1) left)
+    (other_late : AllHeardFrom g.factor (last + 1) other_left) where
+  abbrev file : WholeFile
+  file = record { state = s; heard = f.given ++ left }
+
+  abbrev other_file : WholeFile
+  other_file = record { state = t; heard = g.given ++ other_left }
+
+  waves_walked : (p : SignalPair) (plan : IsPlannedPair bounds f.declared g.declared p) (d e : VariableDeclaration)
+      → slice_get (all_variables s.declared) p.first ≡ Some d
+      → slice_get (all_variables t.declared) p.second ≡ Some e → (old new : PairWaves)
+      → AreBegun bounds (is_kept_at f.declared p.first) (is_kept_at g.declared p.second) plan.own plan.partner p.width
+      old → are_letters new ≡ are_letters old → ArePairWavesAt bounds floor f g p new
+      → AreComparedUpTo bounds last f.factor g.factor file other_file d e new
+  waves_walked p plan d e at_d at_e (letters old) (letters new) begun kind at =
+      let own = declared_one f.declared s.declared same p.first plan.own d plan.at_first at_d in
+      let partner = declared_one g.declared t.declared other_same p.second plan.partner e plan.at_second at_e in
+      waves_compared same_letters bounds floor last (signal_heard f p.width p.first_variable)
+      (signal_heard g p.width p.second_variable) f.given g.given left other_left upto late other_late _ _ new
+      (signal_is f s left same heard p.first d at_d plan.own own p.first_variable plan.first_variable p.width some
+      begun.0 begun.2)
+      (signal_is g t other_left other_same other_heard p.second e at_e plan.partner partner p.second_variable
+      plan.second_variable p.width other_some begun.1 begun.3) at
+  waves_walked p plan d e at_d at_e (words old) (words new) begun kind at =
+      let own = declared_one f.declared s.declared same p.first plan.own d plan.at_first at_d in
+      let partner = declared_one g.declared t.declared other_same p.second plan.partner e plan.at_second at_e in
+      waves_compared bytes_eq bounds floor last (skipped_heard f p.first_variable) (skipped_heard g p.second_variable)
+      f.given g.given left other_left upto late other_late _ _ new
+      (word_is f s left same heard p.first d at_d plan.own own p.first_variable plan.first_variable begun.0)
+      (word_is g t other_left other_same other_heard p.second e at_e plan.partner partner p.second_variable
+      plan.second_variable begun.1) at
+  waves_walked p plan d e at_d at_e (letters old) (words new) begun kind at = absurd (cc kind)
+  waves_walked p plan d e at_d at_e (words old) (letters new) begun kind at = absurd (cc kind)
+
+  pair_walked : (old new : SignalPair) → IsPlannedPair bounds f.declared g.declared old
+      → IsPairAt bounds floor f g old new
+      → IsWalkedPair bounds last f.factor g.factor file other_file old new
   pair_walked old new plan at = record {
     others = at.others;
+    kind = at.kind;
     compared = λ d e at_d at_e.
-        let own : plan.own ≡ d =
-        same_Some _ _ (sym plan.at_first ∙ ap (λ k. slice_get k old.first) (sym kept_is) ∙ at_d) in
-        let partner : plan.partner ≡ e = same_Some _ _ (sym plan.at_second
-        ∙ ap (λ k. slice_get k old.second) (sym others_are) ∙ at_e) in
-        let size : d.size ≡ old.width = ap (λ (x : VariableDeclaration). x.size) (sym own) ∙ plan.own_width in
-        let other_size : e.size ≡ old.width =
-        ap (λ (x : VariableDeclaration). x.size) (sym partner) ∙ plan.partner_width in
-        let variable : first_with d.code (kept_variables s.declared) ≡ old.first_variable =
-        (λ i. first_with (sym own i).code (kept_is i)) ∙ sym plan.first_variable in
-        let other_variable : first_with e.code (kept_variables t.declared) ≡ old.second_variable =
-        (λ i. first_with (sym partner i).code (others_are i)) ∙ sym plan.second_variable in
-        let wave : wave_of factor s d ≡ wave_heard factor old.width old.first_variable (given ++ left) =
-        wave_is_heard SIGNAL_LIMIT s (given ++ left) heard old.first d at_d factor some
-        ∙ (λ i. wave_heard factor (size i) (variable i) (given ++ left)) in
-        let other : wave_of other_factor t e
-        ≡ wave_heard other_factor old.width old.second_variable (other_given ++ other_left) =
-        wave_is_heard SIGNAL_LIMIT t (other_given ++ other_left) other_heard old.second e at_e other_factor other_some
-        ∙ (λ i. wave_heard other_factor (other_size i) (other_variable i) (other_given ++ other_left)) in
-        let pair = at.compared last left other_left upto
-        (from_earlier factor floor (last + 1) left (omega (arith, upto)) late)
-        (from_earlier other_factor floor (last + 1) other_left (omega (arith, upto)) other_late) in
-        record {
-          found = subst (λ w. HasFoundBefore same_letters bounds.tolerance w (wave_of other_factor t e) bounds.first
-              new.waves) (sym wave)
-              (subst (λ w. HasFoundBefore same_letters bounds.tolerance
-              (wave_heard factor old.width old.first_variable (given ++ left)) w bounds.first new.waves) (sym other)
-              pair.found);
-          within = pair.within;
-          a = subst (λ w. HasValueUntil w new.waves.tick (last + 1) new.waves.a) (sym wave)
-              (keeps_a bounds last (wave_heard factor old.width old.first_variable (given ++ left))
-              (wave_heard other_factor old.width old.second_variable (other_given ++ other_left))
-              (scaled_changes factor old.width old.first_variable left)
-              (scaled_changes other_factor old.width old.second_variable other_left) (last + 1) new.waves pair
-              (changes_from factor old.width old.first_variable (last + 1) left late));
-          b = subst (λ w. HasValueUntil w new.waves.tick (last + 1) new.waves.b) (sym other)
-              (keeps_b bounds last (wave_heard factor old.width old.first_variable (given ++ left))
-              (wave_heard other_factor old.width old.second_variable (other_given ++ other_left))
-              (scaled_changes factor old.width old.first_variable left)
-              (scaled_changes other_factor old.width old.second_variable other_left) (last + 1) new.waves pair
-              (changes_from other_factor old.width old.second_variable (last + 1) other_left other_late));
-        };
+        waves_walked old plan d e at_d at_e old.waves new.waves plan.begun at.kind at.compared;
   }
 
   -- all pairs
-  all_walked : (olds news : List SignalPair) → ArePlanned bounds kept others olds
-      → ArePairsAt bounds factor other_factor floor given other_given olds news
-      → AreWalked bounds last factor other_factor s t olds news
+  all_walked : (olds news : List SignalPair) → ArePlanned bounds f.declared g.declared olds
+      → ArePairsAt bounds floor f g olds news
+      → AreWalked bounds last f.factor g.factor file other_file olds news
   all_walked olds news planned at = zip olds news at.count (λ i default below.
       pair_walked (get_or olds i default) (get_or news i default) (planned i default below)
       (at.each i default below))
     where
       zip : (olds news : List SignalPair) → length news ≡ length olds
-          → ((i : ℕ) (default : SignalPair) → i < length olds → IsWalkedPair bounds last factor other_factor s t
-          (get_or olds i default) (get_or news i default))
-          → AllZip (IsWalkedPair bounds last factor other_factor s t) olds news
+          → ((i : ℕ) (default : SignalPair) → i < length olds
+          → IsWalkedPair bounds last f.factor g.factor file other_file (get_or olds i default) (get_or news i default))
+          → AllZip (IsWalkedPair bounds last f.factor g.factor file other_file) olds news
       zip [] [] count each = tt
       zip [] (new ∷ news) count each = absurd (omega (arith, count))
       zip (old ∷ olds) [] count each = absurd (omega (arith, count))
@@ -184,12 +248,26 @@ heard_whole later end given hs more first rest =
     subst (AreHeard (initial_state SIGNAL_LIMIT) end) (append_assoc given hs more)
     (heard_then (initial_state SIGNAL_LIMIT) later end (given ++ hs) more first rest)
 
+-- all that was heard of a file since its start
+heard_since : (start given hs before more : List HeardChange) → given ++ hs ≡ start ++ before
+    → given ++ (hs ++ more) ≡ start ++ (before ++ more)
+heard_since start given hs before more all =
+    sym (append_assoc given hs more) ∙ ap (λ l. l ++ more) all ∙ append_assoc start before more
+
 -- what a file means that was read to its end
 whole_since : (coming : Option (List ℕ)) (end : ParseState) (heard given hs before more : List HeardChange)
     → given ++ hs ≡ heard ++ before → IsHeardWhole coming end ((given ++ hs) ++ more)
     → IsHeardWhole coming end (heard ++ (before ++ more))
 whole_since coming end heard given hs before more all whole =
     subst (IsHeardWhole coming end) (ap (λ l. l ++ more) all ∙ append_assoc heard before more) whole
+
+-- what was counted of it
+counted_since : (heard given hs before more : List HeardChange) → given ++ hs ≡ heard ++ before → (side : Side)
+    → HasCounted ((given ++ hs) ++ more) side.left_out side.last_ticks
+    → HasCounted (heard ++ (before ++ more)) side.left_out side.last_ticks
+counted_since heard given hs before more all side counted =
+    subst (λ l. HasCounted l side.left_out side.last_ticks)
+    (ap (λ l. l ++ more) all ∙ append_assoc heard before more) counted
 
 module _ (most last : ℕ) (coming other left other_left : Option (List ℕ)) (s t : ParseState) (start old new : Walk)
     (at : IsWalkAt most coming other left other_left s t start old) (over : IsWalkOver most old)
@@ -251,6 +329,10 @@ module _ (most last : ℕ) (coming other left other_left : Option (List ℕ)) (s
             end.whole;
         other_whole = whole_since other other_end.later (at_hand start.second) at.other_given ks at.second.on.more
             other_end.more at.second.on.all other_end.whole;
+        counted = counted_since (at_hand start.first) at.given hs at.first.on.more end.more at.first.on.all new.first
+            end.counted;
+        other_counted = counted_since (at_hand start.second) at.other_given ks at.second.on.more other_end.more
+            at.second.on.all new.second other_end.counted;
         last_is = here
             ∙ (λ i. min most (min (end.later.tick * at.first.factor i) (other_end.later.tick * at.second.factor i)));
         bounds = ap (λ (p : Pairs). p.bounds) pairs_are ∙ at.bounds;
@@ -259,17 +341,25 @@ module _ (most last : ℕ) (coming other left other_left : Option (List ℕ)) (s
             let other_some = plan.other_factor in
             let factor_at = at.first.factor in
             let other_factor_at = at.second.factor in
-            subst (λ (p : Pairs). AreWalked start.pairs.bounds last start.first.factor start.second.factor end.later
-            other_end.later start.pairs.all.items p.all.items) (sym pairs_are)
-            (subst (λ f. AreWalked start.pairs.bounds last f start.second.factor end.later other_end.later
-            start.pairs.all.items old.pairs.all.items) at.first.factor
-            (subst (λ f. AreWalked start.pairs.bounds last factor f end.later other_end.later start.pairs.all.items
-            old.pairs.all.items) at.second.factor
-            (all_walked start.pairs.bounds factor other_factor at.floor last end.later other_end.later
-            (kept_variables s.declared) (kept_variables t.declared) at.given at.other_given (hs ++ end.more)
+            let file = given_file s old.first at.given in
+            let other_file = given_file t old.second at.other_given in
+            subst (λ (p : Pairs). AreWalked start.pairs.bounds last start.first.factor start.second.factor
+            (record { state = end.later; heard = at_hand start.first ++ (at.first.on.more ++ end.more) })
+            (record { state = other_end.later; heard = at_hand start.second ++ (at.second.on.more ++ other_end.more) })
+            start.pairs.all.items p.all.items) (sym pairs_are)
+            (subst₂ (λ m n. AreWalked start.pairs.bounds last m n
+            (record { state = end.later; heard = at_hand start.first ++ (at.first.on.more ++ end.more) })
+            (record { state = other_end.later; heard = at_hand start.second ++ (at.second.on.more ++ other_end.more) })
+            start.pairs.all.items old.pairs.all.items) at.first.factor at.second.factor
+            (subst₂ (λ l m. AreWalked start.pairs.bounds last factor other_factor
+            (record { state = end.later; heard = l }) (record { state = other_end.later; heard = m })
+            start.pairs.all.items old.pairs.all.items)
+            (heard_since (at_hand start.first) at.given hs at.first.on.more end.more at.first.on.all)
+            (heard_since (at_hand start.second) at.other_given ks at.second.on.more other_end.more at.second.on.all)
+            (all_walked start.pairs.bounds at.floor last file other_file end.later other_end.later (hs ++ end.more)
             (ks ++ other_end.more) (omega (arith, some, factor_at)) (omega (arith, other_some, other_factor_at))
-            (ap kept_variables (declarations_stay s end.later _ heard plan.declared).1)
-            (ap kept_variables (declarations_stay t other_end.later _ other_heard plan.other_declared).1)
+            (sym (declarations_stay s end.later _ heard plan.declared).1)
+            (sym (declarations_stay t other_end.later _ other_heard plan.other_declared).1)
             (heard_whole at.first.on.later end.later at.given hs end.more at.first.on.at.heard end.heard_more)
             (heard_whole at.second.on.later other_end.later at.other_given ks other_end.more at.second.on.at.heard
             other_end.heard_more)

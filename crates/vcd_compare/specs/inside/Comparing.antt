@@ -1,7 +1,7 @@
 -- A comparison from the declarations of both files to its end.
 use Rattle.std.specs.Prelude.{◌≡◌, ℕ, List, map, length, option_map, Option, IfSome, IsTrue}
 use Rattle.vcd_core.specs.Contents.{Contents}
-use Rattle.vcd_text.specs.Grammar.{ParseState, kept_variables}
+use Rattle.vcd_text.specs.Grammar.{ParseState}
 use Rattle.vcd_part.specs.Requests.{bounded_tick}
 use Rattle.vcd_part.specs.Times.{ticks_of}
 use Rattle.vcd_compare.specs.inside.Outcomes.{compared_positions}
@@ -31,9 +31,8 @@ pub record IsPrepared (r : CompareRequest) (s t : ParseState) (p : Prepared) (w 
     pub bounds : w.pairs.bounds ≡ asked_bounds p.ticks
     pub positions : map pair_positions w.pairs.all.items
         ≡ compared_positions (length p.plan.outcomes.items) p.plan.outcomes.items
-    pub pairs : AllComparable (kept_variables s.declared) (kept_variables t.declared)
-        p.plan.outcomes.items
-        → ArePairsOf w.pairs.bounds (kept_variables s.declared) (kept_variables t.declared) w.pairs
+    pub pairs : AllComparable s.declared t.declared p.plan.outcomes.items
+        → ArePairsOf w.pairs.bounds s.declared t.declared w.pairs
 
 -- both files were read to their ends
 pub record IsReadWhole (r : CompareRequest) (coming other : Option (List ℕ)) (p : Prepared)

@@ -1,4 +1,4 @@
--- What a request says of two captures, by the names of their signals.
+-- What a request says of two captures, by the names of their variables.
 use Rattle.std.specs.Prelude.{◌≡◌, ℕ, not, true, List, [], ◌++◌, map}
 use Rattle.std.specs.List.{list_any, position}
 use Rattle.std.specs.Option.{unwrap_or}
@@ -9,7 +9,7 @@ use Rattle.vcd_compare.specs.Pairs.{partners_of}
 use Rattle.vcd_compare.specs.declared.request.CompareRequest.{CompareRequest}
 use Rattle.vcd_compare.specs.declared.matching.Matching.{Matching}
 
--- of signals with these names it says this
+-- of variables with these names it says this
 pub record IsMatching (r : CompareRequest) (names others : List (List ℕ)) (m : Matching) : Type 0
   where
     pub by_name : m.by_name.items ≡ map (meets_one true (texts r.keep)) names

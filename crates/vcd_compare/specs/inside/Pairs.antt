@@ -1,14 +1,15 @@
--- The pairs of signals that are compared, while changes come.
-use Rattle.std.specs.Prelude.{◌≡◌, ◌≢◌, ℕ, ◌+◌, ◌≤◌, ◌<◌, max, List, [], ◌∷◌, map, length}
-use Rattle.std.specs.Prelude.{slice_index_or, Option, Some}
+-- The pairs of variables that are compared, while changes come.
+use Rattle.std.specs.Prelude.{◌≡◌, ◌≢◌, ℕ, ◌+◌, ◌≤◌, ◌<◌, max, Bool, List, [], ◌∷◌, map, length}
+use Rattle.std.specs.Prelude.{slice_index_or, Option, Some, bytes_eq}
 use Rattle.std.specs.List.{AllZip}
 use Rattle.vcd_core.specs.declared.bit.Bit.{Bit}
-use Rattle.vcd_core.specs.declared.wave.Change.{Change}
 use Rattle.vcd_core.specs.Value.{same_letters}
-use Rattle.vcd_core.specs.Wave.{value_from}
 use Rattle.vcd_text.specs.Letters.{value_of_digits}
 use Rattle.vcd_compare.specs.Differences.{WaveByTicks, compared, ticks_between}
 use Rattle.vcd_compare.specs.ShortestRun.{short_run}
+use Rattle.vcd_compare.specs.Variables.{last_value}
+use Rattle.vcd_compare.specs.VariableDifferences.{VariableDifferences, by_letters, by_words}
+use Rattle.vcd_compare.specs.inside.SignalPair.{PairWaves, letters, words}
 use Rattle.vcd_compare.specs.inside.WavePair.{HasValueUntil, HasFoundBefore, first_after}
 use Rattle.vcd_compare.specs.inside.WavePair.{second_after}
 use Rattle.vcd_compare.specs.inside.Occurrences.{HasOccurrences}
@@ -20,10 +21,6 @@ use Rattle.vcd_compare.specs.declared.pairs.Which.TheVariants.{First, Second}
 use Rattle.vcd_compare.specs.declared.pairs.SignalPair.{SignalPair}
 use Rattle.vcd_compare.specs.declared.pairs.ComparedPair.{ComparedPair}
 use Rattle.vcd_compare.specs.declared.pairs.Pairs.{Pairs}
-
--- a wave of letters
-abbrev pub WaveOfLetters : Type 0
-WaveOfLetters = WaveByTicks (List Bit)
 
 -- ---- which pairs a variable is in
 
@@ -42,32 +39,36 @@ abbrev pub chosen : {A : Type 0} → Which → (first second : A) → A
 chosen First first second = first
 chosen Second first second = second
 
--- the signals of all pairs with a variable have this width
-abbrev pub AreAsWide : Which → (variable width : ℕ) → List SignalPair → Type 0
-AreAsWide which variable width pairs = (i : ℕ) (default : SignalPair) → i < length pairs
-    → variable_in which (slice_index_or pairs i default) ≡ variable
-    → (slice_index_or pairs i default).width ≡ width
-
 -- ---- a change
 
 -- one of two waves has got a value at a tick
-pub record HasChanged (bounds : Bounds) (which : Which) (tick : ℕ) (value : List Bit)
-    (old new : WavePair (List Bit)) : Type 0 where
-  pub found : (wave other : WaveOfLetters)
-      → HasFoundBefore same_letters bounds.tolerance wave other bounds.first old
+pub record HasChanged {V : Type 0} (same : V → V → Bool) (bounds : Bounds) (which : Which)
+    (tick : ℕ) (value : V) (old new : WavePair V) : Type 0 where
+  pub found : (wave other : WaveByTicks V)
+      → HasFoundBefore same bounds.tolerance wave other bounds.first old
       → HasValueUntil wave old.tick tick old.a → HasValueUntil other old.tick tick old.b
-      → HasFoundBefore same_letters bounds.tolerance wave other bounds.first new
+      → HasFoundBefore same bounds.tolerance wave other bounds.first new
   pub tick_is : new.tick ≡ max old.tick tick
   pub a : new.a ≡ first_after which value old.a
   pub b : new.b ≡ second_after which value old.b
 
--- a variable has got the value of these digits at a tick, which is one of a pair or not
-pub record IsPairAfter (bounds : Bounds) (which : Which) (variable tick : ℕ) (digits : List ℕ)
+-- one of two waves has got at a tick the value of this width that a text writes, or the text itself
+abbrev pub HasText : (width : ℕ) → Bounds → Which → (tick : ℕ) → (text : List ℕ)
+    → (old new : PairWaves) → Type 0
+HasText width bounds which tick text (letters old) (letters new) = (value : List Bit)
+    → value_of_digits width text ≡ Some value
+    → HasChanged same_letters bounds which tick value old new
+HasText width bounds which tick text (words old) (words new) =
+    HasChanged bytes_eq bounds which tick text old new
+HasText width bounds which tick text (letters old) (words new) = ⊥
+HasText width bounds which tick text (words old) (letters new) = ⊥
+
+-- a variable has got a text at a tick, which is one of a pair or not
+pub record IsPairAfter (bounds : Bounds) (which : Which) (variable tick : ℕ) (text : List ℕ)
     (old new : SignalPair) : Type 0 where
   pub others : new ≡ record old { waves = new.waves }
-  pub changed : (value : List Bit) → variable_in which old ≡ variable
-      → value_of_digits old.width digits ≡ Some value
-      → HasChanged bounds which tick value old.waves new.waves
+  pub changed : variable_in which old ≡ variable
+      → HasText old.width bounds which tick text old.waves new.waves
   pub unchanged : variable_in which old ≢ variable → new.waves ≡ old.waves
 
 -- the same of all pairs
@@ -81,39 +82,48 @@ pub record ArePairsAfter (bounds : Bounds) (which : Which) (variable tick : ℕ)
 -- ---- what a pair knows of its waves
 
 -- no change is before a tick
-abbrev pub AllFrom : (floor : ℕ) → List Change → Type 0
+abbrev pub AllFrom : {V : Type 0} → (floor : ℕ) → List (ℕ × V) → Type 0
 AllFrom floor [] = Unit {0}
-AllFrom floor (c ∷ cs) = (floor ≤ c.tick) × AllFrom floor cs
+AllFrom floor (c ∷ cs) = (floor ≤ c.0) × AllFrom floor cs
 
 -- two waves have been compared up to before a tick, from which on these changes are left; the
 -- window ends at `last`
-pub record IsWavePairAt (bounds : Bounds) (last : ℕ) (wave other : WaveOfLetters)
-    (left_a left_b : List Change) (p : WavePair (List Bit)) : Type 0 where
-  pub found : HasFoundBefore same_letters bounds.tolerance wave other bounds.first p
-  pub a : (s : ℕ) → p.tick ≤ s → wave s ≡ value_from p.a left_a s
-  pub b : (s : ℕ) → p.tick ≤ s → other s ≡ value_from p.b left_b s
+pub record IsWavePairAt {V : Type 0} (same : V → V → Bool) (bounds : Bounds) (last : ℕ)
+    (wave other : WaveByTicks V) (left_a left_b : List (ℕ × V)) (p : WavePair V) : Type 0 where
+  pub found : HasFoundBefore same bounds.tolerance wave other bounds.first p
+  pub a : (s : ℕ) → p.tick ≤ s → wave s ≡ last_value p.a left_a s
+  pub b : (s : ℕ) → p.tick ≤ s → other s ≡ last_value p.b left_b s
   pub within : p.tick ≤ max bounds.first last
 
 -- ---- the end
 
 -- this is told of two waves, if `last` is the last tick of the window
-abbrev pub AreToldOf : Bounds → (last : ℕ) → WavePair (List Bit) → Differences (List Bit)
-    → (short_run : Option ℕ) → Type 0
-AreToldOf bounds last p differences short_run_told = (wave other : WaveOfLetters) → p.tick ≤ last
-    → HasFoundBefore same_letters bounds.tolerance wave other bounds.first p
+abbrev pub AreToldOf : {V : Type 0} → (same : V → V → Bool) → Bounds → (last : ℕ) → WavePair V
+    → Differences V → (short_run : Option ℕ) → Type 0
+AreToldOf {V} same bounds last p differences short_run_told = (wave other : WaveByTicks V)
+    → p.tick ≤ last → HasFoundBefore same bounds.tolerance wave other bounds.first p
     → HasValueUntil wave p.tick (last + 1) p.a
     → HasValueUntil other p.tick (last + 1) p.b
-    → (differences
-    ≡ compared same_letters bounds.tolerance wave other (ticks_between bounds.first last))
+    → (differences ≡ compared same bounds.tolerance wave other (ticks_between bounds.first last))
     × (short_run_told
-    ≡ short_run same_letters bounds.tolerance wave other (ticks_between bounds.first last))
+    ≡ short_run same bounds.tolerance wave other (ticks_between bounds.first last))
+
+-- the same of waves of letters or of words
+abbrev pub AreToldOfWaves : Bounds → (last : ℕ) → PairWaves → VariableDifferences
+    → (short_run : Option ℕ) → Type 0
+AreToldOfWaves bounds last (letters p) (by_letters ds) short =
+    AreToldOf same_letters bounds last p ds short
+AreToldOfWaves bounds last (words p) (by_words ds) short =
+    AreToldOf bytes_eq bounds last p ds short
+AreToldOfWaves bounds last (letters p) (by_words ds) short = ⊥
+AreToldOfWaves bounds last (words p) (by_letters ds) short = ⊥
 
 -- the same of a pair
 pub record IsToldOf (bounds : Bounds) (last : ℕ) (p : SignalPair) (told : ComparedPair)
     : Type 0 where
   pub first : told.first ≡ p.first
   pub second : told.second ≡ p.second
-  pub waves : AreToldOf bounds last p.waves told.differences told.short_run
+  pub waves : AreToldOfWaves bounds last p.waves told.differences told.short_run
 
 -- the same of all pairs
 abbrev pub AreTold : Bounds → (last : ℕ) → List SignalPair → List ComparedPair → Type 0

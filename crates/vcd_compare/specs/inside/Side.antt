@@ -9,6 +9,7 @@ use Rattle.vcd_text.specs.HeardChanges.{HeardChange, AreHeard, FileIsHeard}
 use Rattle.vcd_text.specs.inside.reading.ChangeStream.{HasStreamed, IsStreamAt, heard_by}
 use Rattle.vcd_text.specs.inside.reading.ChangeStream.{bytes_to_come}
 use Rattle.vcd_text.specs.declared.reading.TheConstants.{LONG_FILE_LIMIT}
+use Rattle.vcd_compare.specs.inside.LeftOut.{HasCounted}
 use Rattle.vcd_compare.specs.declared.side.Side.{Side}
 
 -- the changes at hand: those of the last chunk that were not taken
@@ -41,6 +42,7 @@ pub record IsSideAt (coming left : Option (List ℕ)) (state : ParseState) (give
   pub heard : AreHeard (initial_state SIGNAL_LIMIT) state (given ++ at_hand s)
   pub goes_on : s.is_ended ≡ false → HasStreamed coming left state (given ++ at_hand s) s.stream
   pub ended : s.is_ended ≡ true → IsHeardWhole coming state (given ++ at_hand s)
+  pub counted : HasCounted (given ++ at_hand s) s.left_out s.last_ticks
 
 -- a file was read on, from a state up to which `heard` was heard; `given` were taken
 pub record ReadsOn (coming left : Option (List ℕ)) (state : ParseState)
@@ -59,6 +61,7 @@ pub record ReadsToEnd (coming : Option (List ℕ)) (state : ParseState) (heard :
   pub heard_more : AreHeard state later more
   pub at : IsStreamAt new.stream later
   pub whole : IsHeardWhole coming later (heard ++ more)
+  pub counted : HasCounted (heard ++ more) new.left_out new.last_ticks
   pub stays : old.is_ended ≡ true → (later ≡ state) × (more ≡ [])
 
 -- a file that was opened: its declarations have ended

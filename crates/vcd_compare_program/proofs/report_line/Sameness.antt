@@ -8,12 +8,14 @@ use Rattle.std.proofs.lemmas.List.Sums.{sum_by-append, sum_by-cons}
 use Rattle.vcd_compare.specs.declared.comparison.Comparison.{Comparison}
 use Rattle.vcd_compare.specs.declared.comparison.Outcome.{Outcome}
 use Rattle.vcd_compare.specs.declared.comparison.Outcome.TheVariants as outcomes
+use Rattle.vcd_compare.specs.VariableDifferences.{count_of}
 use Rattle.vcd_compare.specs.declared.pairs.ComparedPair.{ComparedPair}
 use Rattle.vcd_compare_program.specs.declared.report_line.ReportLine.{ReportLine}
 use Rattle.vcd_compare_program.specs.declared.report_line.ReportLine.TheVariants as lines
 use Rattle.vcd_compare_program.specs.CaptureFacts.{CaptureFacts}
 use Rattle.vcd_compare_program.specs.ReportLines.{difference_count, have_one_kind, is_one_of_two, line_if}
-use Rattle.vcd_compare_program.specs.ReportLines.{outcome_lines, outcomes_lines, times_lines, skipped_lines}
+use Rattle.vcd_compare_program.specs.ReportLines.{is_nothing, left_out_lines, outcome_lines, outcomes_lines}
+use Rattle.vcd_compare_program.specs.ReportLines.{times_lines}
 use Rattle.vcd_compare_program.specs.ReportLines.{report_lines, short_run_lines, tells_difference, values_lines}
 use Rattle.vcd_compare_program.specs.ReportLines.{declared_lines, waves_lines}
 use Rattle.vcd_compare_program.specs.Sameness.{has_no_difference, has_same_partner, is_same}
@@ -83,7 +85,7 @@ none_of_values : (k : ℕ) (ps : List ComparedPair) → list_all (λ p. none (va
     ≡ list_all has_no_difference ps
 none_of_values k [] = refl
 none_of_values k (p ∷ ps) = ap₂ (λ x y. x && y)
-    (none_if (not (p.differences.count == 0)) (lines.OtherValues k) refl ∙ not_not (p.differences.count == 0))
+    (none_if (not (count_of p.differences == 0)) (lines.OtherValues k) refl ∙ not_not (count_of p.differences == 0))
     (none_of_values (k + 1) ps)
 
 none_of_runs : (k : ℕ) (ps : List ComparedPair)
@@ -91,6 +93,15 @@ none_of_runs : (k : ℕ) (ps : List ComparedPair)
 none_of_runs k [] = refl
 none_of_runs k (p ∷ ps) = ap₂ (λ x y. x && y)
     (none_silent _ (lines.ShortRun k) refl) (none_of_runs (k + 1) ps)
+
+none_of_waves : (ps : List ComparedPair) → none (waves_lines ps) ≡ list_all has_no_difference ps
+none_of_waves ps =
+    let values = flat_map (λ p. values_lines p.0 p.1) (enumerate_from 0 ps) in
+    let runs = flat_map (λ p. short_run_lines p.0 p.1) (enumerate_from 0 ps) in
+    none_append values runs
+    ∙ ap₂ (λ x y. x && y) (none_flat_map (λ p. values_lines p.0 p.1) (enumerate_from 0 ps) ∙ none_of_values 0 ps)
+    (none_flat_map (λ p. short_run_lines p.0 p.1) (enumerate_from 0 ps) ∙ none_of_runs 0 ps)
+    ∙ and_true (list_all has_no_difference ps)
 
 none_of_others : (js : List ℕ) → none (map lines.OnlyInSecond js) ≡ (length js == 0)
 none_of_others [] = refl
@@ -111,25 +122,13 @@ module _ (a b : CaptureFacts) (c : Comparison) where
       ∙ ap₂ (λ x y. x && y) (none_if (is_one_of_two a.timescale b.timescale) lines.OneTimescale refl)
       (none_if c.has_other_end lines.OtherEnd refl)
 
-  none_of_skipped : none (skipped_lines a b) ≡ true
-  none_of_skipped =
-      let first = line_if (not (a.skipped == 0)) lines.SkippedInFirst in
-      let second = line_if (not (b.skipped == 0)) lines.SkippedInSecond in
+  none_of_left_out : none (left_out_lines a b) ≡ true
+  none_of_left_out =
+      let first = line_if (not (is_nothing a.left_out)) lines.LeftOutOfFirst in
+      let second = line_if (not (is_nothing b.left_out)) lines.LeftOutOfSecond in
       none_append first second
-      ∙ ap₂ (λ x y. x && y) (none_silent (not (a.skipped == 0)) lines.SkippedInFirst refl)
-      (none_silent (not (b.skipped == 0)) lines.SkippedInSecond refl)
-
-  none_of_waves : (ps : List ComparedPair) → none (waves_lines a b ps) ≡ list_all has_no_difference ps
-  none_of_waves ps =
-      let values = flat_map (λ p. values_lines p.0 p.1) (enumerate_from 0 ps) in
-      let skipped = skipped_lines a b in
-      let runs = flat_map (λ p. short_run_lines p.0 p.1) (enumerate_from 0 ps) in
-      none_append (values ++ skipped) runs
-      ∙ ap₂ (λ x y. x && y) (none_append values skipped
-      ∙ ap₂ (λ x y. x && y) (none_flat_map (λ p. values_lines p.0 p.1) (enumerate_from 0 ps) ∙ none_of_values 0 ps)
-      none_of_skipped ∙ and_true (list_all has_no_difference ps))
-      (none_flat_map (λ p. short_run_lines p.0 p.1) (enumerate_from 0 ps) ∙ none_of_runs 0 ps)
-      ∙ and_true (list_all has_no_difference ps)
+      ∙ ap₂ (λ x y. x && y) (none_silent (not (is_nothing a.left_out)) lines.LeftOutOfFirst refl)
+      (none_silent (not (is_nothing b.left_out)) lines.LeftOutOfSecond refl)
 
   none_of_declared : none (declared_lines a b c)
       ≡ ((not (is_one_of_two a.timescale b.timescale) && not c.has_other_end)
@@ -147,5 +146,7 @@ module _ (a b : CaptureFacts) (c : Comparison) where
   -- no line tells of a difference exactly if the captures are the same
   pub same_if_none : (difference_count a b c == 0) ≡ is_same a b c
   unfolding report_lines
-  same_if_none = none_append (declared_lines a b c) (waves_lines a b c.compared.items)
-      ∙ ap₂ (λ x y. x && y) none_of_declared (none_of_waves c.compared.items)
+  same_if_none = none_append (declared_lines a b c ++ waves_lines c.compared.items) (left_out_lines a b)
+      ∙ ap₂ (λ x y. x && y) (none_append (declared_lines a b c) (waves_lines c.compared.items)
+      ∙ ap₂ (λ x y. x && y) none_of_declared (none_of_waves c.compared.items)) none_of_left_out
+      ∙ and_true (is_same a b c)

@@ -1,20 +1,23 @@
 -- How a run ends, by what its devices took.
-use Rattle.std.proofs.Common.{◌≡◌, ℕ, List, Option, Some, None, refl, sym, subst}
-use Rattle.std.specs.Prelude.{Result, Ok, Err, IsErrAnd, IfSome, count_by}
+use Rattle.std.proofs.Common.{◌≡◌, ◌∙◌, ◌++◌, ◌∷◌, [], ℕ, List, Option, Some, None, map, refl, sym, ap, subst}
+use Rattle.std.specs.Prelude.{Result, Ok, Err, IsErrAnd, IfSome}
 use Rattle.vcd_core.specs.Devices.{DeviceEnd, HasPrefix, HasText, IsUntouched}
-use Rattle.vcd_text.specs.Grammar.{is_skipped}
-use Rattle.vcd_text.specs.Meaning.{meaning}
-use Rattle.vcd_compare.specs.Comparisons.{IsAnswerOf, IsComparisonOf, no_memory}
+use Rattle.vcd_core.specs.declared.capture.TheConstants.{SIGNAL_LIMIT}
+use Rattle.vcd_text.specs.Grammar.{VariableDeclaration, initial_state}
+use Rattle.vcd_text.specs.HeardChanges.{HeardChange, heard_all, skipped_variables}
+use Rattle.vcd_compare.specs.Comparisons.{IsAnswerOf, IsComparisonOf, IsMeant, no_memory}
+use Rattle.vcd_compare.specs.Variables.{ComparedContents, WordVariable, with_all, word_declared, word_variable}
 use Rattle.vcd_compare.specs.declared.comparison.CompareError.{CompareError}
 use Rattle.vcd_compare.specs.declared.comparison.CompareError.TheVariants as errors
 use Rattle.vcd_compare.specs.declared.comparison.Comparison.{Comparison}
-use Rattle.vcd_compare_program.specs.CaptureFacts.{capture_facts}
+use Rattle.vcd_compare_program.specs.CaptureFacts.{capture_facts, left_out_told}
 use Rattle.vcd_compare_program.specs.Reports.{IsReportTaken, ReportEnds, first_facts, second_facts}
 use Rattle.vcd_compare_program.specs.declared.compare_fault.CompareFault.{CompareFault}
 use Rattle.vcd_compare_program.specs.declared.compare_fault.CompareFault.TheVariants as faults
 use Rattle.vcd_compare_program.specs.declared.reporting.Report.{Report}
 use Rattle.vcd_compare_program.specs.declared.reporting.ReportRequest.{ReportRequest}
 use Rattle.vcd_compare_program.specs.declared.reporting.Verdict.{Verdict}
+use Rattle.vcd_compare_program.specs.inside.Facts.{meaning_with_all}
 use Rattle.vcd_compare_program.specs.inside.Reports.{IsReportAt, IsReportOf, IsWritten}
 
 -- what holds of any bytes holds of those that a device shows
@@ -38,23 +41,38 @@ pub not_compared : (r : ReportRequest) (first second out : DeviceEnd) (outcome :
 not_compared r first second out (Ok verdict) e gives untouched is = absurd gives
 not_compared r first second out (Err x) e gives untouched is = rw gives (untouched, is)
 
+words_declared : (skipped : List VariableDeclaration) (heard : List HeardChange) (ds : List VariableDeclaration)
+    → map (λ (v : WordVariable). v.declared) (map (word_variable skipped heard) ds) ≡ map word_declared ds
+words_declared skipped heard [] = refl
+words_declared skipped heard (d ∷ ds) = ap (λ vs. word_declared d ∷ vs) (words_declared skipped heard ds)
+
+-- the state of a file says what it means, with all variables
+all_meant : (file : List ℕ) (contents : ComparedContents) (m : IsMeant file contents)
+    → meaning_with_all m.means.state ≡ with_all contents
+all_meant file contents m =
+    let skipped = skipped_variables m.means.state.declared in
+    let declared : map (λ (v : WordVariable). v.declared) contents.words ≡ map word_declared skipped =
+    ap (map (λ (v : WordVariable). v.declared)) m.words
+    ∙ words_declared skipped (heard_all (initial_state SIGNAL_LIMIT) m.means.accepted.items) skipped in
+    sym (λ i. record (m.means.means i) { signals = (m.means.means i).signals ++ declared i })
+
 module _ (r : ReportRequest) (c : Comparison) (made : Report) (is : IsReportAt r c made) where
   -- the report is that of what the files mean
   report_of_files : (file other : List ℕ) (of : IsComparisonOf r.compared file other c)
       → IsReportOf r (first_facts r file other c of) (second_facts r file other c of) c made
   report_of_files file other of =
-      let s = of.first.means.state in
-      let t = of.second.means.state in
-      let a : capture_facts r.first.now (meaning s) c.first.factor (count_by is_skipped s.declared)
-      ≡ first_facts r file other c of =
-      λ i. capture_facts r.first.now (sym of.first.means.means i) c.first.factor (sym of.first.means.left_out i) in
-      let b : capture_facts r.second.now (meaning t) c.second.factor (count_by is_skipped t.declared)
+      let s = of.first.meant.means.state in
+      let t = of.second.meant.means.state in
+      let told = left_out_told r.is_strict c.first.left_out in
+      let other_told = left_out_told r.is_strict c.second.left_out in
+      let a : capture_facts r.first.now (meaning_with_all s) c.first.factor told ≡ first_facts r file other c of =
+      ap (λ m. capture_facts r.first.now m c.first.factor told) (all_meant file of.a of.first.meant) in
+      let b : capture_facts r.second.now (meaning_with_all t) c.second.factor other_told
       ≡ second_facts r file other c of =
-      λ i. capture_facts r.second.now (sym of.second.means.means i) c.second.factor
-      (sym of.second.means.left_out i) in
+      ap (λ m. capture_facts r.second.now m c.second.factor other_told) (all_meant other of.b of.second.meant) in
       subst (λ f. IsReportOf r f (second_facts r file other c of) c made) a
-      (subst (λ f. IsReportOf r (capture_facts r.first.now (meaning s) c.first.factor
-      (count_by is_skipped s.declared)) f c made) b (is s t of.first.at_end of.second.at_end))
+      (subst (λ f. IsReportOf r (capture_facts r.first.now (meaning_with_all s) c.first.factor told) f c made) b
+      (is s t of.first.at_end of.second.at_end))
 
   -- what a device takes of the text it takes of the report
   pub report_taken : (takes : List ℕ → Type 0) → takes made.text.items → (file other : List ℕ)

@@ -1,8 +1,7 @@
 -- The report of a comparison whose streams have come to some states.
-use Rattle.std.specs.Prelude.{◌≡◌, ℕ, true, false, count_by, Result, Ok, Err}
+use Rattle.std.specs.Prelude.{◌≡◌, ℕ, true, false, Result, Ok, Err}
 use Rattle.vcd_core.specs.Devices.{DeviceEnd, HasText, HasPrefix}
-use Rattle.vcd_text.specs.Grammar.{ParseState, is_skipped}
-use Rattle.vcd_text.specs.Meaning.{meaning}
+use Rattle.vcd_text.specs.Grammar.{ParseState}
 use Rattle.vcd_text.specs.inside.reading.ChangeStream.{IsStreamAt}
 use Rattle.vcd_compare.specs.declared.comparison.Comparison.{Comparison}
 use Rattle.vcd_compare_program.specs.declared.reporting.ReportRequest.{ReportRequest}
@@ -10,10 +9,11 @@ use Rattle.vcd_compare_program.specs.declared.reporting.Report.{Report}
 use Rattle.vcd_compare_program.specs.declared.reporting.Verdict.{Verdict}
 use Rattle.vcd_compare_program.specs.declared.compare_fault.CompareFault.{CompareFault}
 use Rattle.vcd_compare_program.specs.declared.compare_fault.CompareFault.TheVariants as faults
-use Rattle.vcd_compare_program.specs.CaptureFacts.{CaptureFacts, capture_facts}
+use Rattle.vcd_compare_program.specs.CaptureFacts.{CaptureFacts, capture_facts, left_out_told}
 use Rattle.vcd_compare_program.specs.ReportLines.{is_whole}
 use Rattle.vcd_compare_program.specs.Sameness.{is_same}
 use Rattle.vcd_compare_program.specs.Reports.{report, verdict_of}
+use Rattle.vcd_compare_program.specs.inside.Facts.{meaning_with_all}
 
 -- the report of a comparison of captures that are shown so
 pub record IsReportOf (r : ReportRequest) (a b : CaptureFacts) (c : Comparison) (made : Report)
@@ -25,8 +25,10 @@ pub record IsReportOf (r : ReportRequest) (a b : CaptureFacts) (c : Comparison) 
 abbrev pub IsReportAt : ReportRequest → Comparison → Report → Type 0
 IsReportAt r c made = (s t : ParseState) → IsStreamAt c.first.stream s
     → IsStreamAt c.second.stream t → IsReportOf r
-    (capture_facts r.first.now (meaning s) c.first.factor (count_by is_skipped s.declared))
-    (capture_facts r.second.now (meaning t) c.second.factor (count_by is_skipped t.declared)) c made
+    (capture_facts r.first.now (meaning_with_all s) c.first.factor
+    (left_out_told r.is_strict c.first.left_out))
+    (capture_facts r.second.now (meaning_with_all t) c.second.factor
+    (left_out_told r.is_strict c.second.left_out)) c made
 
 -- what becomes of a report that is written to a device
 abbrev pub IsWritten : Report → DeviceEnd → Result Verdict CompareFault → Type 0

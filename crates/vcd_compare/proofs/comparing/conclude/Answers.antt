@@ -31,6 +31,8 @@ returns-clause-told c r coming other x =
       second_stream = refl;
       first_factor = refl;
       second_factor = refl;
+      first_left_out = refl;
+      second_left_out = refl;
       timescale = refl;
       decides = λ s t at_s at_t. subst (Decides p s t) c.in_ok-tolerance.was
           (decides_by p s t c.common.result c.decide.result

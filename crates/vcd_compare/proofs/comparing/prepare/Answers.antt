@@ -1,5 +1,4 @@
 use Rattle.std.proofs.Common.{◌∙◌, ap, ap₂, subst, sym, List, length}
-use Rattle.vcd_text.specs.Grammar.{kept_variables}
 use Rattle.vcd_compare.specs.inside.Outcomes.{compared_positions}
 use Rattle.vcd_compare.specs.inside.Planning.{AllComparable, ArePairsOf}
 use Rattle.vcd_compare.specs.inside.Times.{scale_between}
@@ -9,8 +8,6 @@ use Rattle.vcd_compare.proofs.comparing.prepare.Goals as goal
 
 pub returns-clause-prepared : goal.returns-clause-prepared
 returns-clause-prepared c s t at_s at_t =
-    let kept = kept_variables s.declared in
-    let others = kept_variables t.declared in
     let lent = c.as_slice.ensures.value in
     record {
       scale = c.scale_of-scale.ensures ∙ ap₂ scale_between (c.timescale.ensures s at_s) (c.timescale-2.ensures t at_t);
@@ -25,6 +22,8 @@ returns-clause-prepared c s t at_s at_t =
       bounds = c.in_ok-pairs.ensures.bounds ∙ c.bounds.ensures;
       positions = c.in_ok-pairs.ensures.positions
           ∙ ap (λ (os : List Outcome). compared_positions (length os) os) lent;
-      pairs = λ are. subst (λ b. ArePairsOf b kept others c.in_ok-pairs.pairs) (sym c.in_ok-pairs.ensures.bounds)
-          (c.in_ok-pairs.ensures.pairs s t at_s at_t (subst (AllComparable kept others) (sym lent) are));
+      pairs = λ are. subst (λ b. ArePairsOf b s.declared t.declared c.in_ok-pairs.pairs)
+          (sym c.in_ok-pairs.ensures.bounds)
+          (c.in_ok-pairs.ensures.pairs s t at_s at_t
+          (subst (AllComparable s.declared t.declared) (sym lent) are));
     }

@@ -15,7 +15,7 @@ invariant-loop-at l = (limit variable : ℕ)
     → HasOccurrences limit (map (variable_in l.change.which) l.initial.all) l.places
     → IsLastPlace (map (variable_in l.change.which) l.initial.all) (length l.initial.all) variable (Some l.fn.last)
     → (bound : ℕ) × (bound ≤ length l.initial.all)
-    × AreChangedFrom l.bounds l.change.which variable l.change.tick l.change.digits.now bound l.initial.all l.all
+    × AreChangedFrom l.bounds l.change.which variable l.change.tick l.change.text.now bound l.initial.all l.all
     × IsLastPlace (map (variable_in l.change.which) l.initial.all) bound variable l.at
 
 abbrev pub decreases-loop-at : goal.decreases-loop-at

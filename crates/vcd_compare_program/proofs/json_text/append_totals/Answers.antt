@@ -9,6 +9,6 @@ use Rattle.vcd_compare_program.proofs.json_text.append_totals.Goals as goal
 pub returns : goal.returns
 returns c = on_ok_weaker c.append_same.result (three c.args.text.now.items
     (member (codes "lines_that_differ") (decimal c.args.differing))
-    (member (codes "same_signals") (decimal c.args.same))
+    (member (codes "same_variables") (decimal c.args.same))
     (member (codes "same") (bool_json (c.args.differing == 0))) _ _ _ c.in_ok-append_number.ensures
     c.in_ok-append_number-2.ensures) c.append_same.ensures

@@ -26,12 +26,12 @@ returns-then-eq g c tolerance wave other first t later is keep_a keep_b is_a is_
     let old = c.args.self.now in
     step_same same tolerance wave other first t c.args.tick old _ later is keep_a keep_b
     ((λ i. same (sym is_a i) (sym is_b i)) ∙ sym c.eq.ensures ∙ c.if-eq.true)
-    c.end_difference.ensures.tolerance c.end_difference.ensures.open (ap Some is_a)
+    c.end_difference.ensures.tolerance c.end_difference.ensures.open (ap Some (c.in_ok-copied.ensures ∙ is_a))
     (λ before few was. c.end_difference.ensures.found before (omega (arith, c.ranges.tick)) was
     ∙ ap (λ v. summary (before ++ standing_end same old.tolerance old.open_difference c.args.tick v)) is_a)
 
-pub returns-then-is_none : goal.returns-then-is_none
-returns-then-is_none g c tolerance wave other first t later is keep_a keep_b is_a is_b =
+pub returns-in_ok-copied-3 : goal.returns-in_ok-copied-3
+returns-in_ok-copied-3 g c tolerance wave other first t later is keep_a keep_b is_a is_b =
     let same = g.V.PartialEq.eq in
     let old = c.args.self.now in
     let step = c.begin_difference.ensures in
@@ -39,8 +39,9 @@ returns-then-is_none g c tolerance wave other first t later is keep_a keep_b is_
     ((λ i. same (sym is_a i) (sym is_b i)) ∙ sym c.eq.ensures ∙ c.if-eq.false)
     (ap (λ s. s.tolerance) step)
     (ap (λ s. s.open_difference) step
-    ∙ opened_first same tolerance wave other first old.open_difference old.value c.args.tick c.args.a c.args.b
-    (c.is_none.ensures ∙ ap not c.if-is_none.true) is_a is_b)
+    ∙ opened_first same tolerance wave other first old.open_difference old.value c.args.tick c.in_ok-copied-2.field-0
+    c.in_ok-copied-3.field-0 (c.is_none.ensures ∙ ap not c.if-is_none.true) (c.in_ok-copied-2.ensures ∙ is_a)
+    (c.in_ok-copied-3.ensures ∙ is_b))
     (ap (λ s. s.found) step)
 
 pub returns-else-is_none : goal.returns-else-is_none

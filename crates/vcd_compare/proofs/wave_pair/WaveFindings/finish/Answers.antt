@@ -7,7 +7,7 @@ returns-clause-differences g c wave other first t upto small is keep_a keep_b =
     c.finish.ensures c.args.tolerance wave other first t upto small is.compared keep_a keep_b
 
 pub returns-clause-short_run : goal.returns-clause-short_run
-returns-clause-short_run g c wave other first t is_same upto is keep_a keep_b =
+returns-clause-short_run g c wave other first t upto is keep_a keep_b =
     c.short_of.ensures
-    ∙ ap₂ (short_of c.args.tolerance) (c.finish-2.ensures wave first t is_same upto is.runs_of_a keep_a)
-    (c.finish-3.ensures other first t is_same upto is.runs_of_b keep_b)
+    ∙ ap₂ (short_of c.args.tolerance) (c.finish-2.ensures wave first t upto is.runs_of_a keep_a)
+    (c.finish-3.ensures other first t upto is.runs_of_b keep_b)

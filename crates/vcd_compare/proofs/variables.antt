@@ -1,0 +1,3 @@
+-- Lemmas of `variables`.
+pub mod Positions
+pub mod Listed

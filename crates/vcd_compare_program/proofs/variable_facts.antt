@@ -1,0 +1,3 @@
+-- Lemmas of `variable_facts`.
+pub mod NameCounts
+pub mod ShownVariables
