@@ -1,8 +1,8 @@
 -- The variables of a capture as they are compared: its signals by their letters, and after them
 -- those that are no signals, by the words of their changes. The rules are the project's own.
-use Rattle.std.specs.Prelude.{ℕ, ◌*◌, ◌-◌, ◌^◌, min, ◌==◌, Bool, false, nat_le, nat_lt, List, []}
-use Rattle.std.specs.Prelude.{if◌then◌else◌, ◌∷◌, ◌++◌, map, filter, length, bytes_eq, codes}
-use Rattle.std.specs.Prelude.{decimal, slice_index_or}
+use Rattle.std.specs.Prelude.{ℕ, ◌*◌, ◌-◌, ◌^◌, min, ◌==◌, ◌&&◌, ◌||◌, Bool, false, nat_le, nat_lt}
+use Rattle.std.specs.Prelude.{if◌then◌else◌, List, [], ◌∷◌, ◌++◌, map, filter, length, bytes_eq}
+use Rattle.std.specs.Prelude.{codes, decimal, slice_index_or}
 use Rattle.vcd_core.specs.Contents.{Contents, SignalContents, no_signal}
 use Rattle.vcd_core.specs.Word.{is_skipped_kind}
 use Rattle.vcd_text.specs.Grammar.{VariableDeclaration, ParseState}
@@ -72,9 +72,22 @@ last_value before [] t = before
 last_value before ((tick, value) ∷ changes) t =
     last_value (if nat_le tick t then value else before) changes t
 
--- what a change is compared by: its word, or of an event its tick
+-- whether a digit says nothing before another one: 0 before 0 or 1, x before x, z before z, as
+-- a value is extended to the left (IEEE 1364-2005, 18.2)
+abbrev pub is_implied : (digit next : ℕ) → Bool
+is_implied digit next =
+    digit == 48 && (next == 48 || next == 49) || digit == next && (next == 120 || next == 122)
+
+-- a word without such digits at its beginning
+unfoldable pub shortest_word : List ℕ → List ℕ
+shortest_word [] = []
+shortest_word (digit ∷ []) = digit ∷ []
+shortest_word (digit ∷ next ∷ rest) =
+    if is_implied digit next then shortest_word (next ∷ rest) else digit ∷ next ∷ rest
+
+-- what a change is compared by: its shortest word, or of an event its tick
 abbrev pub word_of : (is_event : Bool) → (tick : ℕ) → (text : List ℕ) → List ℕ
-word_of is_event tick text = if is_event then decimal tick else text
+word_of is_event tick text = if is_event then decimal tick else shortest_word text
 
 -- the changes of a variable, by ticks of the comparison
 abbrev pub word_changes : (factor : ℕ) → WordVariable → List (ℕ × List ℕ)

@@ -23,6 +23,7 @@ mod pairs;
 mod planning;
 mod request;
 mod shortest_run;
+mod shortest_word;
 mod side;
 mod sized_waves;
 mod times;

@@ -21,6 +21,7 @@ ghost use Rattle.vcd_compare.specs.declared.comparison.CompareError.TheVariants 
 
 use crate::comparison::CompareError;
 use crate::pairs::{Pairs, VariableChange, Which};
+use crate::shortest_word::shortest_word;
 use crate::side::Side;
 use itoa::Buffer;
 use std::alloc::Global;
@@ -278,8 +279,8 @@ fn give_change(side: &Side, pairs: &mut Pairs, which: Which, tick: u64) -> Resul
     Ok(())
 }
 
-/// Gives the pairs a change of the first skipped variable of a code, by its position: the text, or
-/// of an event the tick.
+/// Gives the pairs a change of the first skipped variable of a code, by its position: its shortest
+/// word, or of an event the tick.
 #[inline(never)]
 fn give_word(
     stream: &ChangeStream,
@@ -297,11 +298,12 @@ fn give_word(
     let Some(variable) = stream.signals().len().checked_add(position) else {
         return Err(NoMemory);
     };
-    if !is_event(stream.skipped_variables(), position) {
-        return pairs.change(variable, change);
-    }
     let which = change.which;
     let tick = change.tick;
+    if !is_event(stream.skipped_variables(), position) {
+        let text = shortest_word(change.text);
+        return pairs.change(variable, &VariableChange { which, tick, text });
+    }
     let mut buffer = Buffer::new();
     let text = buffer.format(tick).as_bytes();
     pairs.change(variable, &VariableChange { which, tick, text })

@@ -12,11 +12,10 @@ use Rattle.vcd_text.specs.HeardLaws.{FitsTarget}
 use Rattle.vcd_text.specs.declared.reading.heard_changes.ChangeTarget.{ChangeTarget}
 use Rattle.vcd_text.specs.declared.reading.heard_changes.ChangeTarget.TheVariants.{Kept, Skipped}
 use Rattle.vcd_text.proofs.shared.FirstVariables.{first_found}
-use Rattle.vcd_compare.specs.Variables.{word_of}
 use Rattle.vcd_compare.specs.inside.SignalPair.{PairWaves, letters, words}
 use Rattle.vcd_compare.specs.inside.Walk.{ArePlanned, IsPlannedPair, AreBegun, all_variables, is_kept_at}
 use Rattle.vcd_compare.specs.inside.Walk.{first_position, are_letters}
-use Rattle.vcd_compare.specs.inside.WalkSteps.{GivenFile, target_position, is_event_target, given_text}
+use Rattle.vcd_compare.specs.inside.WalkSteps.{GivenFile, target_position, text_of_target, given_text}
 use Rattle.vcd_compare.specs.declared.wave_pair.Bounds.{Bounds}
 use Rattle.vcd_compare.specs.declared.pairs.Which.TheVariants.{First, Second}
 use Rattle.vcd_compare.specs.declared.pairs.SignalPair.{SignalPair}
@@ -103,7 +102,7 @@ signal_reads declared width variable tick h (Kept k) is sizes fits x same =
         let wide : d.size ≡ width =
         sym (first_is (kept_variables declared) x.place variable k x.own d sizes x.there x.first same there)
         ∙ x.wide in
-        ap (λ t. value_of_digits width (word_of (is_event_target (skipped_variables declared) t) tick h.text)) is
+        ap (λ t. value_of_digits width (text_of_target (skipped_variables declared) t tick h.text)) is
         ∙ ap (λ n. value_of_digits n h.text) (sym wide) ∙ some
         ∙ ap (λ n. Some (extension n (letters_of_digits h.text))) wide
 signal_reads declared width variable tick h (Skipped k) is sizes fits x same =

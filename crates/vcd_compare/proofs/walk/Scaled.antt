@@ -25,7 +25,7 @@ use Rattle.vcd_text.proofs.shared.HeardMeaning.{heard_give_values, heard_rise, h
 use Rattle.vcd_compare.specs.Variables.{last_value, is_of_skipped, is_event_kind, word_of}
 use Rattle.vcd_compare.specs.inside.Walk.{wave_of, word_wave_of}
 use Rattle.vcd_compare.specs.inside.WalkSteps.{GivenFile, signal_heard, skipped_heard, wave_heard, target_position}
-use Rattle.vcd_compare.specs.inside.WalkSteps.{declares_event, is_event_target, given_text}
+use Rattle.vcd_compare.specs.inside.WalkSteps.{declares_event, text_of_target, given_text}
 use Rattle.vcd_compare.proofs.shared.HeardParts.{rise_bounds, kept_within}
 
 -- ---- signals
@@ -136,10 +136,11 @@ same_skipped signals position (Skipped k) placed =
 
 module _ (signals position factor : ℕ) (skipped : List VariableDeclaration) (is_event : Bool)
     (declares : declares_event (slice_get skipped position) ≡ is_event) where
-  event_of : (target : ChangeTarget) → is_of_skipped position target ≡ true
-      → is_event_target skipped target ≡ is_event
-  event_of (Kept k) own = absurd (cc own)
-  event_of (Skipped k) own = ap (λ n. declares_event (slice_get skipped n)) (eqb-true k position own) ∙ declares
+  word_given : (tick : ℕ) (text : List ℕ) (target : ChangeTarget) → is_of_skipped position target ≡ true
+      → text_of_target skipped target tick text ≡ word_of is_event tick text
+  word_given tick text (Kept k) own = absurd (cc own)
+  word_given tick text (Skipped k) own = ap (λ b. word_of b tick text)
+      (ap (λ n. declares_event (slice_get skipped n)) (eqb-true k position own) ∙ declares)
 
   -- the words of a variable are what the pairs are given of its changes
   words_given : (hs : List HeardChange) → All (λ (h : HeardChange). IsPlaced signals h.target) hs
@@ -153,7 +154,7 @@ module _ (signals position factor : ℕ) (skipped : List VariableDeclaration) (i
       let rest = words_given hs (All-tail (λ (g : HeardChange). IsPlaced signals g.target) h hs placed) in
       elim (cases_Bool (is_of_skipped position h.target)) [
         | inl own ↦ rw own (rw (same ∙ own)
-            (λ i. (h.tick * factor, word_of (sym (event_of h.target own) i) (h.tick * factor) h.text) ∷ rest i))
+            (λ i. (h.tick * factor, sym (word_given (h.tick * factor) h.text h.target own) i) ∷ rest i))
         | inr other ↦ rw other (rw (same ∙ other) rest)
       ]
 

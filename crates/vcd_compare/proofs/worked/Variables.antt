@@ -6,7 +6,7 @@ use Rattle.vcd_text.specs.HeardChanges.{HeardChange, first_with}
 use Rattle.vcd_text.specs.declared.reading.heard_changes.ChangeTarget.{ChangeTarget}
 use Rattle.vcd_text.specs.declared.reading.heard_changes.ChangeTarget.TheVariants.{Kept, Skipped}
 use Rattle.vcd_compare.specs.Differences.{WaveByTicks}
-use Rattle.vcd_compare.specs.Variables.{compared_width, last_value, word_variable, word_by_tick}
+use Rattle.vcd_compare.specs.Variables.{compared_width, last_value, word_variable, word_by_tick, shortest_word}
 
 abbrev variable : (kind : List ℕ) → (size : ℕ) → (code name : List ℕ) → VariableDeclaration
 variable kind size code name = record { scopes = []; kind = kind; size = size; code = code; words = name ∷ [] }
@@ -44,24 +44,24 @@ wide_width = refl
 
 -- the last change of a tick counts
 real_before : wave level 29 ≡ codes "r1.5"
-unfolding first_with last_value
+unfolding first_with last_value shortest_word
 real_before = refl
 
 real_after : wave level 30 ≡ codes "r2.5"
-unfolding first_with last_value
+unfolding first_with last_value shortest_word
 real_after = refl
 
 -- an event has the tick at which it was last, and before the first one no word
 no_event : wave done 29 ≡ []
-unfolding first_with last_value
+unfolding first_with last_value shortest_word
 no_event = refl
 
 first_event : wave done 69 ≡ decimal 30
-unfolding first_with last_value
+unfolding first_with last_value shortest_word
 first_event = refl
 
 second_event : wave done 70 ≡ decimal 70
-unfolding first_with last_value
+unfolding first_with last_value shortest_word
 second_event = refl
 
 -- what has the code of an event is one
@@ -70,5 +70,22 @@ unfolding first_with
 namesake = refl
 
 same_code : wave note 69 ≡ decimal 30
-unfolding first_with last_value
+unfolding first_with last_value shortest_word
 same_code = refl
+
+-- digits at the beginning that say nothing go: zeros before 0 or 1, x before x; zero before x stays
+zeros : shortest_word (codes "0010") ≡ codes "10"
+unfolding shortest_word
+zeros = refl
+
+one_zero : shortest_word (codes "00") ≡ codes "0"
+unfolding shortest_word
+one_zero = refl
+
+unknown : shortest_word (codes "xx0z") ≡ codes "x0z"
+unfolding shortest_word
+unknown = refl
+
+zero_before_x : shortest_word (codes "0x") ≡ codes "0x"
+unfolding shortest_word
+zero_before_x = refl

@@ -44,15 +44,18 @@ abbrev pub declares_event : Option VariableDeclaration → Bool
 declares_event None = false
 declares_event (Some d) = is_event_kind d.kind
 
--- whether a target is an event, by the first skipped variable with its code
-abbrev pub is_event_target : (skipped : List VariableDeclaration) → ChangeTarget → Bool
-is_event_target skipped (Kept position) = false
-is_event_target skipped (Skipped position) = declares_event (slice_get skipped position)
+-- what the pairs are given of a text of a target at a tick of the comparison: of a signal the text,
+-- of a skipped variable what it is compared by. The first one with its code says whether it is an
+-- event
+abbrev pub text_of_target : (skipped : List VariableDeclaration) → ChangeTarget → (tick : ℕ)
+    → (text : List ℕ) → List ℕ
+text_of_target skipped (Kept position) tick text = text
+text_of_target skipped (Skipped position) tick text =
+    word_of (declares_event (slice_get skipped position)) tick text
 
--- what the pairs are given of a change at a tick of the comparison: its text, or of an event the
--- tick
+-- the same of a change
 abbrev pub given_text : (skipped : List VariableDeclaration) → (tick : ℕ) → HeardChange → List ℕ
-given_text skipped tick h = word_of (is_event_target skipped h.target) tick h.text
+given_text skipped tick h = text_of_target skipped h.target tick h.text
 
 -- a variable of a file, as it is heard: how many ticks of the comparison a tick of the file has,
 -- the position of the variable among all, of which so many are signals, its value before the first

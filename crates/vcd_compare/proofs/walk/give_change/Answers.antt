@@ -4,8 +4,7 @@ use Rattle.vcd_text.specs.Grammar.{kept_variables}
 use Rattle.vcd_text.specs.HeardChanges.{HeardChange, skipped_variables}
 use Rattle.vcd_text.specs.LentChanges.{heard_contents}
 use Rattle.vcd_text.specs.inside.reading.ChangeStream.{heard_by}
-use Rattle.vcd_compare.specs.Variables.{word_of}
-use Rattle.vcd_compare.specs.inside.WalkSteps.{AreGiven, IsGiven, target_position, is_event_target}
+use Rattle.vcd_compare.specs.inside.WalkSteps.{AreGiven, IsGiven, target_position, text_of_target}
 use Rattle.vcd_compare.proofs.side.Chunks.{change_is}
 use Rattle.vcd_compare.proofs.walk.give_change.Goals as goal
 
@@ -19,7 +18,7 @@ returns-in_ok-change-in-Kept c s h rest at_s at =
     (ap (λ hs. slice_get {X = HeardChange} hs side.taken) (sym c.heard-heard.ensures) ∙ c.get-change.ensures) at in
     subst (λ g. IsGiven s c.args.which c.args.tick g old new) is
     (subst (λ t. AreGiven c.args.which (target_position (length (kept_variables s.declared)) t) c.args.tick
-    (word_of (is_event_target (skipped_variables s.declared) t) c.args.tick heard.text.now) old new)
+    (text_of_target (skipped_variables s.declared) t c.args.tick heard.text.now) old new)
     (sym c.in-Kept.is) (record {
       bounds = c.in_ok-change-in-Kept.ensures.bounds;
       listed = c.in_ok-change-in-Kept.ensures.listed;
@@ -36,5 +35,5 @@ returns-in_ok-give_word-in-Skipped c s h rest at_s at =
     (ap (λ hs. slice_get {X = HeardChange} hs side.taken) (sym c.heard-heard.ensures) ∙ c.get-change.ensures) at in
     subst (λ g. IsGiven s c.args.which c.args.tick g old new) is
     (subst (λ t. AreGiven c.args.which (target_position (length (kept_variables s.declared)) t) c.args.tick
-    (word_of (is_event_target (skipped_variables s.declared) t) c.args.tick heard.text.now) old new)
+    (text_of_target (skipped_variables s.declared) t c.args.tick heard.text.now) old new)
     (sym c.in-Skipped.is) (c.in_ok-give_word-in-Skipped.ensures s at_s))

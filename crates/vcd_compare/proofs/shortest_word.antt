@@ -1,0 +1,2 @@
+-- Lemmas of `shortest_word`.
+pub mod Words
