@@ -36,7 +36,8 @@ impl<V: Drop> Differences<V> {
 
     /// Whether there is none.
     pub fn is_empty(&self) -> bool
-        ensures { result ≡ true → self.now ≡ summary [] }
+        ensures empty { result ≡ true → self.now ≡ summary [] }
+        ensures found { self.now ≡ summary [] → result ≡ true }
     {
         self.count == 0 && self.first.is_none() && self.last.is_none()
     }

@@ -1,7 +1,9 @@
 -- What the report of a comparison shows of a capture: its path, what it declares, and its end. The
 -- form of names is the project's own.
-use Rattle.std.specs.Prelude.{ℕ, ◌+◌, ◌*◌, ◌==◌, List, [], ◌∷◌, ◌++◌, map, count_by, bytes_eq}
-use Rattle.std.specs.Prelude.{Bool, true, false, Option, if◌then◌else◌, codes, decimal}
+use Rattle.std.specs.Prelude.{ℕ, ◌+◌, ◌*◌, ◌==◌, List, [], ◌++◌, map, length, take, count_by}
+use Rattle.std.specs.Prelude.{bytes_eq, slice_index_or, Bool, true, false, Option}
+use Rattle.std.specs.Prelude.{if◌then◌else◌, codes, decimal}
+use Rattle.std.specs.List.{range_with_len}
 use Rattle.vcd_core.specs.declared.capture.Timescale.{Timescale}
 use Rattle.vcd_core.specs.Contents.{Contents, SignalContents}
 use Rattle.vcd_core.specs.Names.{full_name}
@@ -40,10 +42,13 @@ abbrev pub shown_after : (names : List (List ℕ)) → VariableFacts → Variabl
 shown_after names v =
     record v { name = shown v.name ++ turn_text (count_by (bytes_eq v.name) names) }
 
--- variables as they are shown, in their order, after others with these full names
-abbrev pub all_shown : (names : List (List ℕ)) → List VariableFacts → List VariableFacts
-all_shown names [] = []
-all_shown names (v ∷ vs) = shown_after names v ∷ all_shown (names ++ v.name ∷ []) vs
+-- the variable at a position as it is shown, after those before it
+abbrev pub shown_at : List VariableFacts → ℕ → VariableFacts
+shown_at vs k = shown_after (take k (map (λ v. v.name) vs)) (slice_index_or vs k no_facts)
+
+-- variables as they are shown, in their order
+abbrev pub all_shown : List VariableFacts → List VariableFacts
+all_shown vs = map (shown_at vs) (range_with_len 0 (length vs))
 
 -- what is told of what is left out: nothing without `--strict`
 abbrev pub left_out_told : (is_strict : Bool) → LeftOut → LeftOut
@@ -55,7 +60,7 @@ abbrev pub capture_facts : (path : List ℕ) → Contents → (factor : ℕ) →
     → CaptureFacts
 capture_facts path c factor told = record {
   path = shown path;
-  variables = all_shown [] (map facts_declared c.signals);
+  variables = all_shown (map facts_declared c.signals);
   timescale = c.timescale;
   end = c.end * factor;
   left_out = told;

@@ -1,8 +1,7 @@
 //! What the report of a comparison shows of the variables of a capture.
 
 ghost use Rattle.std.specs.Prelude.{◌≡◌, ◌++◌, ◌∷◌, ◌-◌, ◌<◌, ◌^◌, [], ℕ, List, length, map};
-ghost use Rattle.std.specs.Prelude.{IfOk, OnOk, if◌then◌else◌};
-ghost use Rattle.vcd_core.specs.Word.{is_skipped_kind};
+ghost use Rattle.std.specs.Prelude.{IfOk, OnOk};
 ghost use Rattle.vcd_text.specs.inside.reading.DeclaredSignals.{declared_contents};
 ghost use Rattle.vcd_compare_program.specs.CaptureFacts as spec;
 ghost use Rattle.vcd_compare_program.specs.CaptureFacts.{VariableFacts};
@@ -11,8 +10,8 @@ ghost use Rattle.vcd_compare_program.specs.inside.Facts.{facts_listed, facts_of_
 
 use indexmap::IndexMap;
 use std::alloc::Global;
-use vcd_compare::name_of;
-use vcd_core::{NoMemory, is_skipped_kind};
+use vcd_compare::{name_of, skipped_width};
+use vcd_core::NoMemory;
 use vcd_shell::{append_bytes, append_decimal, append_shown};
 use vcd_text::{Declarations, SkippedVariable};
 
@@ -37,7 +36,7 @@ pub fn reported_variables(
     signals: &Declarations,
     others: &[SkippedVariable],
 ) -> Result<Vec<ReportedVariable>, NoMemory>
-    ensures { IfOk result (λ made. map facts_of_variable made.items ≡ spec.all_shown []
+    ensures { IfOk result (λ made. map facts_of_variable made.items ≡ spec.all_shown
         (map spec.facts_declared (declared_contents signals.now) ++ map facts_listed others.now)) }
 {
     let mut reported = ReportedVariables::new(alloc);
@@ -77,8 +76,7 @@ impl ReportedVariables {
     {
         for other in others {
             let name = Vec::from_slice(alloc, other.name.as_slice())?;
-            let kind = other.kind.as_slice();
-            self.push(alloc, name, kind, width_of(kind, other.size))?;
+            self.push(alloc, name, other.kind.as_slice(), skipped_width(other))?;
         }
         Ok(())
     }
@@ -99,13 +97,6 @@ impl ReportedVariables {
         self.list.push(variable)?;
         Ok(())
     }
-}
-
-/// The width of a variable of a kind and a size; 0 if its kind has no letters.
-fn width_of(kind: &[u8], size: u64) -> u64
-    ensures { result ≡ (if is_skipped_kind kind.now then 0 else size) }
-{
-    if is_skipped_kind(kind) { 0 } else { size }
 }
 
 /// A variable as it is shown, after those whose names were counted. Its name is counted, too.

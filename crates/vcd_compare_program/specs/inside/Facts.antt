@@ -1,15 +1,14 @@
 -- What is seen of the facts that the code holds, and how often names were counted.
-use Rattle.std.specs.Prelude.{◌≡◌, ℕ, List, [], map, ◌++◌, bytes_eq, count_by, if◌then◌else◌}
+use Rattle.std.specs.Prelude.{◌≡◌, ℕ, List, [], map, ◌++◌, bytes_eq, count_by}
 use Rattle.std.specs.Global.{Vec}
 use Rattle.std.specs.Option.{unwrap_or}
 use Rattle.indexmap.specs.IndexMap.{IndexMap, get_by}
 use Rattle.vcd_core.specs.Contents.{Contents}
-use Rattle.vcd_core.specs.Word.{is_skipped_kind}
 use Rattle.vcd_text.specs.Grammar.{ParseState}
 use Rattle.vcd_text.specs.HeardChanges.{skipped_variables}
 use Rattle.vcd_text.specs.Meaning.{meaning}
 use Rattle.vcd_text.specs.declared.reading.skipped_variables.SkippedVariable.{SkippedVariable}
-use Rattle.vcd_compare.specs.Variables.{word_declared}
+use Rattle.vcd_compare.specs.Variables.{listed_width, word_declared}
 use Rattle.vcd_compare_program.specs.CaptureFacts.{VariableFacts, CaptureFacts, all_shown}
 use Rattle.vcd_compare_program.specs.declared.capture_facts.ReportedCapture.{ReportedCapture}
 use Rattle.vcd_compare_program.specs.declared.variable_facts.ReportedVariable.{ReportedVariable}
@@ -34,7 +33,7 @@ abbrev pub facts_listed : SkippedVariable → VariableFacts
 facts_listed v = record {
   name = v.name;
   kind = v.kind;
-  width = if is_skipped_kind v.kind then 0 else v.size;
+  width = listed_width v;
 }
 
 -- how often a name was counted
@@ -47,7 +46,7 @@ HaveCounted names counts = (name : List ℕ) → count_in counts name ≡ count_
 
 -- these variables are there as they are shown, and their names were counted
 pub record AreReported (vs : List VariableFacts) (reported : ReportedVariables) : Type 0 where
-  pub shown : map facts_of_variable reported.list.items ≡ all_shown [] vs
+  pub shown : map facts_of_variable reported.list.items ≡ all_shown vs
   pub counted : HaveCounted (map (λ v. v.name) vs) reported.counts
 
 -- what a file with this state means, with all variables

@@ -12,7 +12,7 @@ returns c = λ s at.
     c.in_ok-append_shown.ensures ∙ (λ i. c.new-shown.ensures.items i ++ shown (c.as_bytes.ensures.value i)) in
     let declared = ap₂ (λ vs ws. map facts_declared vs ++ map facts_listed ws) (c.signals.ensures s at)
     (c.skipped_variables.ensures s at) ∙ all_declared s in
-    let variables = c.in_ok-variables.ensures ∙ ap (all_shown []) declared in
+    let variables = c.in_ok-variables.ensures ∙ ap all_shown declared in
     let end = ap₂ (λ t f. t * f) (c.from.ensures ∙ c.tick.ensures s at) c.from-2.ensures in
     λ i. record {
       path = path i;
