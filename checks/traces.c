@@ -5,6 +5,8 @@
 
      FAILS=CALL:PATH:ERRNO      this call fails on what begins so
      FAILS_ONCE=1               it does so once
+     AGAIN=COMMAND              a shell runs this right before `c.vcd` is opened for the fifth time
+     FAILS_AGAIN=1              what is to fail does so only from then on
      AT_SYNC=COMMAND            a shell runs this right before the first fsync
      AT_RENAME=COMMAND          it does so right before the first rename
      LINKS=PATH                 this file gets the second name in place of another one
@@ -68,11 +70,14 @@ static void tell(const char *line) {
     syscall(3, file);
 }
 
+/* How often the capture was opened. */
+static int opened;
+
 /* Whether this call on this path is to fail. */
 static int is_to_fail(const char *call, const char *path) {
     const char *fails = getenv("FAILS");
     size_t length = strlen(call);
-    if (!fails || strncmp(fails, call, length) || fails[length] != ':')
+    if (!fails || getenv("FAILS_AGAIN") && opened < 5 || strncmp(fails, call, length) || fails[length] != ':')
         return 0;
     const char *begin = fails + length + 1, *end = begin;
     while (*end != ':')
@@ -102,12 +107,24 @@ static long traced(const char *call, const char *path, const char *rest, long nu
     return result;
 }
 
+/* Runs the command of a setting in a shell, once. */
+static void run_once(const char *setting) {
+    const char *command = getenv(setting);
+    if (!command)
+        return;
+    unsetenv("LD_PRELOAD");
+    system(command);
+    unsetenv(setting);
+}
+
 int open(const char *path, int flags, ...) {
     __builtin_va_list rest;
     char shown[60], buffer[600];
     __builtin_va_start(rest, flags);
     int mode = flags & O_CREAT ? __builtin_va_arg(rest, int) : 0;
     __builtin_va_end(rest);
+    if (!strcmp(path, "c.vcd") && ++opened == 5)
+        run_once("AGAIN");
     snprintf(shown, sizeof shown, flags & O_CREAT ? " %o mode %o" : " %o", flags & ~02000000, mode);
     int file = traced("open", path, shown, 2, (long)path, flags, mode, 0, 0);
     if (file >= 0 && file < NAMES)
@@ -136,16 +153,6 @@ int mkdir(const char *path, unsigned mode) {
 int rmdir(const char *path) { return traced("rmdir", path, "", 84, (long)path, 0, 0, 0, 0); }
 
 int unlink(const char *path) { return traced("unlink", path, "", 87, (long)path, 0, 0, 0, 0); }
-
-/* Runs the command of a setting in a shell, once. */
-static void run_once(const char *setting) {
-    const char *command = getenv(setting);
-    if (!command)
-        return;
-    unsetenv("LD_PRELOAD");
-    system(command);
-    unsetenv(setting);
-}
 
 int rename(const char *path, const char *target) {
     char shown[600], buffer[500];

@@ -5,6 +5,7 @@
 //! of `vcd_devices`.
 #![tactic(auto)]
 
+mod again;
 mod amend_error;
 mod capture_mark;
 mod command_line;

@@ -9,9 +9,10 @@ ghost use Rattle.vcd_amend_program.specs.declared.amend_error.AmendError.TheVari
     amend_errors;
 ghost use Rattle.vcd_amend_run.specs.declared.running.AmendRunError.TheVariants as run_errors;
 
+use crate::again::{CaptureAgain, SummedAgain};
 use crate::amend_error::{AmendError, NOT_READ};
 use std::rt::Runtime;
-use vcd_amend_run::{AmendRunError, Passes};
+use vcd_amend_run::{AmendRunError, Passes, Reopen};
 use vcd_core::Source;
 use vcd_devices::{Pass, Summed, Watch, open_first_pass, open_pass, tell_reason};
 use vcd_replace::SeenFile;
@@ -33,29 +34,34 @@ pub fn find_capture<'a, R: Runtime + AllocGlobal>(
     }
 }
 
-/// Opens the capture for each pass.
+/// The passes over a capture file.
+pub type CapturePasses<'a, R> = Passes<Pass<'a, R>, SummedAgain<CaptureAgain<'a, R>>>;
+
+/// Opens the capture for each pass but those of lines that are decoded while it is read.
 pub fn open_passes<'a, R: Runtime + AllocGlobal>(
     rt: &'a R,
     capture: SeenFile<'a>,
-) -> Result<Passes<Pass<'a, R>>, AmendError>
-    ensures ready { IfOk result (AreReady ⟦<Pass<'a, R> as Source>⟧.has_failed) }
+) -> Result<CapturePasses<'a, R>, AmendError>
+    ensures ready { IfOk result (AreReady ⟦<Pass<'a, R> as Source>⟧.has_failed
+        ⟦<SummedAgain<CaptureAgain<'a, R>> as Reopen<Pass<'a, R>>>⟧.has_failed) }
     ensures fault { IfErr result (λ e. e ≡ not_read) }
 {
     let watch = Watch::begin(rt, capture.length());
     let compares = watch.line("compares the passes");
     let reads = watch.line_with_forecast("reads the changes");
-    let again = watch.line_with_forecast("reads other changes");
+    let reads_others = watch.line_with_forecast("reads other changes");
     let writes = watch.line("writes the output");
     Ok(Passes {
         declarations: open_first_pass(rt, capture, compares).map_err(|_| NOT_READ)?,
         outline: open_pass(rt, capture, reads).map_err(|_| NOT_READ)?,
-        changes: open_pass(rt, capture, again).map_err(|_| NOT_READ)?,
+        changes: open_pass(rt, capture, reads_others).map_err(|_| NOT_READ)?,
         copy: open_pass(rt, capture, writes).map_err(|_| NOT_READ)?,
+        again: SummedAgain::new(CaptureAgain::new(rt, capture, watch)),
     })
 }
 
 /// Takes what the passes have shown from the terminal.
-pub fn clear_progress<R: Runtime + AllocGlobal>(passes: &mut Passes<Pass<'_, R>>) {
+pub fn clear_progress<R: Runtime + AllocGlobal>(passes: &mut CapturePasses<'_, R>) {
     passes.declarations.source().clear();
     passes.outline.source().clear();
     passes.changes.source().clear();
@@ -80,7 +86,9 @@ pub fn refuse_replaced<R: Runtime + AllocGlobal>(
 
 /// Refuses a run whose passes did not all read the same bytes. A pass that is not at the end of the
 /// file is read to it; one that was not begun read nothing.
-pub fn refuse_changed<S: Source>(passes: &mut Passes<Summed<S>>) -> Result<(), AmendError>
+pub fn refuse_changed<S: Source, A>(
+    passes: &mut Passes<Summed<S>, SummedAgain<A>>,
+) -> Result<(), AmendError>
     ensures same { OnOk result (HaveOneSum passes.new) }
     ensures fault { IfErr result IsCaptureFault }
     ensures changed { IfErr result (λ e. e ≡ amend_errors.Run run_errors.CaptureChanged →
@@ -89,7 +97,8 @@ pub fn refuse_changed<S: Source>(passes: &mut Passes<Summed<S>>) -> Result<(), A
     let sum = passes.declarations.whole_sum().map_err(|_| NOT_READ)?;
     refuse_other(&mut passes.outline, sum)?;
     refuse_other(&mut passes.changes, sum)?;
-    refuse_other(&mut passes.copy, sum)
+    refuse_other(&mut passes.copy, sum)?;
+    passes.again.refuse_other(sum)
 }
 
 /// Refuses a pass that was begun, and that has another sum.

@@ -12,13 +12,14 @@ ghost use Rattle.vcd_amend_program.specs.ProgramEnds as spec;
 ghost use Rattle.vcd_amend_program.specs.Sums.{HaveOneSum};
 ghost use Rattle.vcd_amend_program.specs.inside.Jobs.{HasDepth, IsReady};
 
+use crate::again::{CaptureAgain, SummedAgain};
 use crate::amend_error::{AmendError, NO_MEMORY, NO_SCRIPT};
 use crate::capture_mark::{digest_of, head_of};
 use crate::command_line::{Options, command_line, options_of};
 use crate::inputs::{inputs_of, script_path, tell_format_of};
 use crate::job::{Job, run_of};
 use crate::part::run_part;
-use crate::passes::{clear_progress, find_capture, open_passes, refuse_changed};
+use crate::passes::{CapturePasses, clear_progress, find_capture, open_passes, refuse_changed};
 use crate::reporting::{PROGRAM, report};
 use crate::verify::run_verify;
 use clap::{ArgMatches, Command};
@@ -27,7 +28,7 @@ use std::fs::File;
 use std::io;
 use std::io::BufWriter;
 use std::rt::Runtime;
-use vcd_amend_run::{Passes, amend_run};
+use vcd_amend_run::{Passes, Reopen, amend_run};
 use vcd_core::{FromBytes, Sink, Source, ToBytes, ToWrite};
 use vcd_devices::{
     CaptureSearch, OutputFault, Pass, Remarks, SafeFile, Summed, open_named, tell_earlier_mark,
@@ -201,11 +202,12 @@ fn tell_found<R: Runtime>(rt: &R, search: &CaptureSearch, options: &Options<'_, 
 /// Opens the script, and runs.
 fn run_passes<'a, R: Runtime<File = File> + AllocGlobal>(
     rt: &'a R,
-    passes: &mut Passes<Pass<'a, R>>,
+    passes: &mut CapturePasses<'a, R>,
     job: &Job<'_>,
 ) -> Result<Summary, AmendError>
     requires job_ready { IsReady job.now }
-    requires passes_ready { AreReady ⟦<Pass<'a, R> as Source>⟧.has_failed passes.old }
+    requires passes_ready { AreReady ⟦<Pass<'a, R> as Source>⟧.has_failed
+        ⟦<SummedAgain<CaptureAgain<'a, R>> as Reopen<Pass<'a, R>>>⟧.has_failed passes.old }
     ensures { IsOutcomeOnFile (options_in job.now.options.now) result }
 {
     match job.options.script {
@@ -231,14 +233,17 @@ fn script_without_path(options: &Options<'_, '_>) -> &'static [u8]
 }
 
 /// Runs with a buffer for the replies to standard output.
-fn run_inputs<R: Runtime<File = File> + AllocGlobal, C: Source, S: Source>(
+fn run_inputs<R, C: Source, A: Reopen<Summed<C>>, S: Source>(
     rt: &R,
-    passes: &mut Passes<Summed<C>>,
+    passes: &mut Passes<Summed<C>, SummedAgain<A>>,
     script: &mut S,
     job: &Job<'_>,
 ) -> Result<Summary, AmendError>
+where
+    R: Runtime<File = File> + AllocGlobal,
     requires job_ready { IsReady job.now }
-    requires passes_ready { AreReady ⟦<Summed<C> as Source>⟧.has_failed passes.old }
+    requires passes_ready { AreReady ⟦<Summed<C> as Source>⟧.has_failed
+        ⟦<SummedAgain<A> as Reopen<Summed<C>>>⟧.has_failed passes.old }
     requires script_ready { S.has_failed script.old ≡ false }
     ensures { IsOutcomeOn (option_copied job.now.options.now.output) job.now.run result
         (device_end S.coming S.has_failed script.old script.new) }
@@ -253,15 +258,18 @@ fn run_inputs<R: Runtime<File = File> + AllocGlobal, C: Source, S: Source>(
 }
 
 /// Runs with a file for the output, if there is one.
-fn run_to_output<R: Runtime<File = File> + AllocGlobal, C: Source, S: Source, P: Sink>(
+fn run_to_output<R, C: Source, A: Reopen<Summed<C>>, S: Source, P: Sink>(
     rt: &R,
-    passes: &mut Passes<Summed<C>>,
+    passes: &mut Passes<Summed<C>, SummedAgain<A>>,
     script: &mut S,
     replies: &mut P,
     job: &Job<'_>,
 ) -> Result<Summary, AmendError>
+where
+    R: Runtime<File = File> + AllocGlobal,
     requires job_ready { IsReady job.now }
-    requires passes_ready { AreReady ⟦<Summed<C> as Source>⟧.has_failed passes.old }
+    requires passes_ready { AreReady ⟦<Summed<C> as Source>⟧.has_failed
+        ⟦<SummedAgain<A> as Reopen<Summed<C>>>⟧.has_failed passes.old }
     requires script_ready { S.has_failed script.old ≡ false }
     requires replies_ready { P.has_failed replies.old ≡ false }
     ensures { IsOutcomeOn (option_copied job.now.options.now.output) job.now.run result
@@ -277,15 +285,18 @@ fn run_to_output<R: Runtime<File = File> + AllocGlobal, C: Source, S: Source, P:
 }
 
 /// Runs with a file for the output, and then puts it in its place.
-fn run_to_file<'a, R: Runtime<File = File> + AllocGlobal, C: Source, S: Source, P: Sink>(
-    passes: &mut Passes<Summed<C>>,
+fn run_to_file<'a, R, C: Source, A: Reopen<Summed<C>>, S: Source, P: Sink>(
+    passes: &mut Passes<Summed<C>, SummedAgain<A>>,
     script: &mut S,
     replies: &mut P,
     mut file: SafeFile<'a, R>,
     job: &Job<'_>,
 ) -> Result<Summary, AmendError>
+where
+    R: Runtime<File = File> + AllocGlobal,
     requires job_ready { IsReady job.now }
-    requires passes_ready { AreReady ⟦<Summed<C> as Source>⟧.has_failed passes.old }
+    requires passes_ready { AreReady ⟦<Summed<C> as Source>⟧.has_failed
+        ⟦<SummedAgain<A> as Reopen<Summed<C>>>⟧.has_failed passes.old }
     requires script_ready { S.has_failed script.old ≡ false }
     requires replies_ready { P.has_failed replies.old ≡ false }
     requires file_ready { ⟦<SafeFile<'a, R> as Sink>⟧.has_failed file ≡ false }
@@ -310,9 +321,9 @@ fn run_to_file<'a, R: Runtime<File = File> + AllocGlobal, C: Source, S: Source, 
 }
 
 /// Puts the output in its place, of a run whose passes over the capture have one sum.
-fn put_in_place<'a, R: Runtime<File = File> + AllocGlobal, C: Source>(
+fn put_in_place<'a, R: Runtime<File = File> + AllocGlobal, C: Source, A>(
     file: SafeFile<'a, R>,
-    _passes: &Passes<Summed<C>>,
+    _passes: &Passes<Summed<C>, SummedAgain<A>>,
 ) -> Result<InPlace, OutputFault>
     requires same { HaveOneSum _passes.now }
     requires flushed { ⟦<SafeFile<'a, R> as Sink>⟧.is_flushed file ≡ true }
@@ -321,15 +332,18 @@ fn put_in_place<'a, R: Runtime<File = File> + AllocGlobal, C: Source>(
 }
 
 /// Runs without an output.
-fn run_without_file<R: Runtime + AllocGlobal, C: Source, S: Source, P: Sink>(
+fn run_without_file<R, C: Source, A: Reopen<Summed<C>>, S: Source, P: Sink>(
     rt: &R,
-    passes: &mut Passes<Summed<C>>,
+    passes: &mut Passes<Summed<C>, SummedAgain<A>>,
     script: &mut S,
     replies: &mut P,
     job: &Job<'_>,
 ) -> Result<Summary, AmendError>
+where
+    R: Runtime + AllocGlobal,
     requires job_ready { IsReady job.now }
-    requires passes_ready { AreReady ⟦<Summed<C> as Source>⟧.has_failed passes.old }
+    requires passes_ready { AreReady ⟦<Summed<C> as Source>⟧.has_failed
+        ⟦<SummedAgain<A> as Reopen<Summed<C>>>⟧.has_failed passes.old }
     requires script_ready { S.has_failed script.old ≡ false }
     requires replies_ready { P.has_failed replies.old ≡ false }
     ensures { IsOutcomeOn None job.now.run result

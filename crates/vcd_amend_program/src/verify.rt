@@ -14,6 +14,7 @@ ghost use Rattle.vcd_amend_program.specs.inside.Jobs.{HasDepth, IsReady};
 ghost use Rattle.vcd_amend_program.specs.inside.Comparisons.{IsFoundHead, IsPartSaid};
 ghost use Rattle.vcd_amend_program.specs.inside.Comparisons.{sum_text};
 
+use crate::again::SummedAgain;
 use crate::amend_error::{AmendError, NO_MARK, NO_MEMORY, NO_PART_FILE, NOT_READ, NOT_VERIFIED};
 use crate::capture_mark::{CaptureDigest, digest_of, part_lines};
 use crate::command_line::Options;
@@ -28,7 +29,7 @@ use std::fs::File;
 use std::io;
 use std::rt::Runtime;
 use vcd_amend::Nowhere;
-use vcd_amend_run::{AmendRunError, Passes, RunOptions, amend_run};
+use vcd_amend_run::{AmendRunError, Passes, Reopen, RunOptions, amend_run};
 use vcd_copy::MarkHead;
 use vcd_core::{FromBytes, NoMemory, Sink, Source, ToWrite, Word, write_and_flush};
 use vcd_devices::{
@@ -419,19 +420,24 @@ fn compare_file<R: Runtime<File = File> + AllocGlobal>(
 }
 
 /// Compares a source with what a run of this script writes.
-fn compare_run<R: Runtime + AllocGlobal, C: Source, M: Source + Drop>(
+fn compare_run<R, C: Source, A: Reopen<Summed<C>>, M: Source + Drop>(
     rt: &R,
-    passes: &mut Passes<Summed<C>>,
+    passes: &mut Passes<Summed<C>, SummedAgain<A>>,
     script: &[u8],
     marked: M,
     run: &RunOptions<'_>,
 ) -> Result<(), AmendError>
-    requires ready { AreReady ⟦<Summed<C> as Source>⟧.has_failed passes.old }
+where
+    R: Runtime + AllocGlobal,
+    requires ready { AreReady ⟦<Summed<C> as Source>⟧.has_failed
+        ⟦<SummedAgain<A> as Reopen<Summed<C>>>⟧.has_failed passes.old }
     requires least { 1 ≤ run.now.depth }
     requires most { run.now.depth ≤ DEPTH_LIMIT }
     ensures same { OnOk result (spec.IsMarkedOutput run.now
-        (pass_ends ⟦<Summed<C> as Source>⟧.coming ⟦<Summed<C> as Source>⟧.has_failed passes.old
-        passes.new) script.now (M.coming marked)) }
+        (pass_ends ⟦<Summed<C> as Source>⟧.coming ⟦<Summed<C> as Source>⟧.has_failed
+        ⟦<SummedAgain<A> as Reopen<Summed<C>>>⟧.whole
+        ⟦<SummedAgain<A> as Reopen<Summed<C>>>⟧.has_failed passes.old passes.new) script.now
+        (M.coming marked)) }
     ensures on_devices { OnOk result (spec.IsMarkedOutputOnDevices run.now script.now) }
     ensures fault { IfErr result spec.IsVerifyError }
 {

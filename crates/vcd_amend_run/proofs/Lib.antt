@@ -1,2 +1,3 @@
 -- Lemmas about runs that amend files.
 pub mod worked
+pub mod streamed_lines

@@ -1,4 +1,5 @@
 -- Worked cases.
 pub mod EditedFiles
+pub mod MovedChanges
 pub mod OutputRemarks
 pub mod WrongPrefixes

@@ -26,7 +26,7 @@ use Rattle.vcd_amend_run.specs.declared.on_bytes.AmendRefusal.{AmendRefusal}
 use Rattle.vcd_amend.specs.WhatStands.{ItemsStand}
 use Rattle.vcd_amend.specs.RetimedLaws.{AreRetimed}
 use Rattle.vcd_amend_run.specs.EditedText.{is_cut_out_by, remaining_of_run}
-use Rattle.vcd_amend_run.specs.AmendRunEnds.{TakesSkippedName}
+use Rattle.vcd_amend_run.specs.AmendRunEnds.{TakesSkippedName, counted}
 
 -- ---- the file after a run
 
@@ -59,22 +59,26 @@ pub data IsRefusedLongFile (file : List ℕ) (e : ReadError) : Type 0 where
 -- the bytes of a file are not amended for this error, and these are the replies before it
 abbrev pub AmendFails : (file script : List ℕ) → (depth : ℕ) → (replies : List ℕ) → AmendRunError
     → Type 0
--- the file is refused for this, or memory ran out as it was read: before any reply, or for the copy
+-- the file is refused for this, or memory ran out as it was read: before any reply, for a line
+-- after the first bytes of the replies, or for the copy
 AmendFails file script depth replies (Run (run_errors.Capture e)) =
     (IsRefusedLongFile file e ⊎ (e ≡ record { line = 0; fault = faults.NoMemory }))
-    × ((replies ≡ []) ⊎ ((written : RunOutcome) × IsRun file script depth written
-    × (replies ≡ concat written.replies)))
+    × ((replies ≡ []) ⊎ ((written : RunOutcome) × IsRun file script depth written × (count : ℕ)
+    × (replies ≡ take count (concat written.replies))))
 AmendFails file script depth replies (Run run_errors.ScriptTooLarge) =
     (SCRIPT_LIMIT < length script) × (replies ≡ [])
--- memory ran out before the first line, or at a line, counted from 1
+-- memory ran out before the first line, or at a line, counted from 1: of the reply to this one
+-- there may be the first bytes
 AmendFails file script depth replies (Run (run_errors.NoMemory zero)) = replies ≡ []
 AmendFails file script depth replies (Run (run_errors.NoMemory (suc before))) =
     (written : RunOutcome) × IsRun file script depth written × (before < length written.replies)
-    × (replies ≡ concat (take before written.replies))
--- memory ran out for the replies, after `count` bytes of them
-AmendFails file script depth replies (Run (run_errors.ReplyFault count)) =
-    (written : RunOutcome) × IsRun file script depth written
+    × (count : ℕ) × (length (concat (take before written.replies)) ≤ count)
+    × (count ≤ length (concat (take (suc before) written.replies)))
     × (replies ≡ take count (concat written.replies))
+-- memory ran out for the replies, after so many bytes of them
+AmendFails file script depth replies (Run (run_errors.ReplyFault bytes)) =
+    (written : RunOutcome) × IsRun file script depth written × (count : ℕ)
+    × (bytes ≡ counted count) × (replies ≡ take count (concat written.replies))
 -- memory ran out for the file: all replies are given
 AmendFails file script depth replies (Run (run_errors.Write e)) =
     (written : RunOutcome) × IsRun file script depth written × (replies ≡ concat written.replies)

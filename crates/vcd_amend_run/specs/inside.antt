@@ -9,4 +9,11 @@ pub mod Running
 pub mod dry_running
 pub mod WithWaves
 pub mod NewNames
+pub mod StreamedLines
+pub mod LinePass
+pub mod FileLines
+pub mod PassSteps
+pub mod FedReplies
+pub mod PlannedLines
+pub mod PlannedLine
 pub mod SkippedNames

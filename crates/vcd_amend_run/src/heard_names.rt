@@ -41,7 +41,8 @@ impl HeardNames {
     }
 
     /// The names that lines of a script are expected to ask for. It is a guess: a line may ask for
-    /// a signal by its position, or by a name that an earlier line has given it.
+    /// a signal by its position, or by a name that an earlier line has given it, and one that
+    /// decodes may have to be held.
     pub fn expected(alloc: Global, script: &[u8]) -> Result<HeardNames, NoMemory> {
         let mut hashes = HashSet::new(alloc);
         let mut rest = script;
@@ -76,7 +77,8 @@ impl HeardNames {
     }
 }
 
-/// Expects the words of a line, unless it is a comment, or a command that reads no changes.
+/// Expects the words of a line, unless it is a comment, or a command that reads no changes or
+/// decodes.
 fn expect_words(hashes: &mut HashSet<u64>, line: &[u8]) -> Result<(), NoMemory> {
     let mut words = Words::new(line);
     let Some(first) = words.next_word() else {
@@ -91,10 +93,21 @@ fn expect_words(hashes: &mut HashSet<u64>, line: &[u8]) -> Result<(), NoMemory> 
     Ok(())
 }
 
-/// Whether a line that begins with this word may read the changes of the signals that it names.
+/// Whether a line that begins with this word may read the changes of the signals that it names, and
+/// is not likely to be decoded while the file is read.
 fn may_read_changes(first: &[u8]) -> bool {
     let is_comment = matches!(first, [b'#', ..]);
-    !is_comment && first != b"rename".as_slice() && first != b"remove".as_slice()
+    !is_comment && !reads_no_changes(first) && !decodes(first)
+}
+
+/// Whether a command reads no changes.
+fn reads_no_changes(first: &[u8]) -> bool {
+    first == b"rename".as_slice() || first == b"remove".as_slice()
+}
+
+/// Whether a command decodes the signals that it names.
+fn decodes(first: &[u8]) -> bool {
+    first == b"uart".as_slice() || first == b"spi".as_slice() || first == b"i2c".as_slice()
 }
 
 impl Choice for HeardNames {

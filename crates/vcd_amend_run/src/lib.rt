@@ -3,7 +3,8 @@
 //! [`amend_run`] carries a script out on a capture file, and writes the file as it is after the
 //! script. It holds only the changes that lines of the script ask for: `vcd_amend` gives what the
 //! file declares, [`read_hollow`] its capture with the changes that are expected to be asked for,
-//! [`dry_run`] which changes lines ask for, and [`read_heard`] those that were not expected.
+//! [`dry_run`] which changes lines ask for, and [`read_heard`] those that were not expected. A line
+//! that decodes what no edit in force reads holds none: the file is read once more for it.
 //! [`amend_on_bytes`] is `amend_run` with bytes in memory:
 //!
 //! ```rust
@@ -23,13 +24,17 @@ mod heard_names;
 mod hearing;
 mod hollow_reading;
 mod laws;
+mod line_pass;
 mod name_hash;
 mod new_names;
 mod on_bytes;
+mod planned_lines;
 mod remarks;
+mod reopen;
 mod running;
 mod sharing;
 mod skipped_names;
+mod streamed_line;
 
 pub use dry_running::{DryRun, NoMemoryAt, dry_run};
 pub use heard_names::HeardNames;
@@ -42,4 +47,5 @@ pub use laws::{
 pub use new_names::takes_skipped_name;
 pub use on_bytes::{AmendRefusal, amend_on_bytes};
 pub use remarks::{append_names_remark, append_removed_remark, output_remarks};
+pub use reopen::Reopen;
 pub use running::{AmendRunError, Passes, RunOptions, amend_run};

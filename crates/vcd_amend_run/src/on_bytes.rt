@@ -6,6 +6,7 @@ ghost use Rattle.vcd_amend_run.specs.AmendRun.{IsAmendRun};
 ghost use Rattle.vcd_amend_run.specs.AmendRunEnds.{AreReady, pass_ends, AllShow};
 ghost use Rattle.vcd_amend_run.specs.AmendOnBytes.{AmendGives};
 
+use crate::reopen::{BytesAgain, Reopen};
 use crate::running::{AmendRunError, Passes, RunOptions, amend_run};
 use std::alloc::Global;
 use vcd_amend::Nowhere;
@@ -70,17 +71,20 @@ pub fn amend_on_bytes(
     }
 }
 
-/// Four sources of the same bytes.
-fn passes_over<'a>(file: &'a [u8]) -> Passes<FromBytes<'a>>
+/// Sources of the same bytes.
+fn passes_over<'a>(file: &'a [u8]) -> Passes<FromBytes<'a>, BytesAgain<'a>>
     ensures declarations { ⟦<FromBytes<'a> as Source>⟧.coming result.declarations ≡ Some file.now }
     ensures outline { ⟦<FromBytes<'a> as Source>⟧.coming result.outline ≡ Some file.now }
     ensures changes { ⟦<FromBytes<'a> as Source>⟧.coming result.changes ≡ Some file.now }
     ensures copy { ⟦<FromBytes<'a> as Source>⟧.coming result.copy ≡ Some file.now }
+    ensures again { ⟦<BytesAgain<'a> as Reopen<FromBytes<'a>>>⟧.whole result.again
+        ≡ Some file.now }
 {
     Passes {
         declarations: FromBytes::new(file),
         outline: FromBytes::new(file),
         changes: FromBytes::new(file),
         copy: FromBytes::new(file),
+        again: BytesAgain { bytes: file },
     }
 }

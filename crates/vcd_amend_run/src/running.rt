@@ -1,23 +1,26 @@
 //! A capture file amended by a script, in passes over the file.
 
 ghost use Rattle.std.specs.Prelude.{◌≡◌, ◌≢◌, ◌≤◌, false, true, ℕ, List, Some, length, OnOk, IfOk};
-ghost use Rattle.std.specs.Prelude.{IfErr, IfSome, All, ◌==◌, not, Ok, Err};
+ghost use Rattle.std.specs.Prelude.{IfErr, IfSome, All, ◌==◌, not, Ok, Err, Bool};
 ghost use Rattle.std.specs.Option.{ForSome};
 ghost use Rattle.std.specs.Io.KnownBytes.{Appends};
 ghost use Rattle.vcd_core.specs.CaptureContents.{contents};
+ghost use Rattle.vcd_core.specs.Contents.{Contents};
 ghost use Rattle.vcd_core.specs.Outline.{outline};
 ghost use Rattle.vcd_core.specs.Devices.{device_end, HasPrefix};
 ghost use Rattle.vcd_core.specs.Sound.{IsSound};
 ghost use Rattle.vcd_copy.specs.CopyEnds.{CopyFails, TookFirst};
 ghost use Rattle.vcd_copy.specs.MarkText.{comment_of_mark};
 ghost use Rattle.vcd_text.specs.declared.reading.TheConstants.{LONG_FILE_LIMIT};
+ghost use Rattle.vcd_journal.specs.History.{initial_history};
 ghost use Rattle.vcd_journal.specs.Machine.{initial_machine};
+ghost use Rattle.vcd_hollow.specs.Hollow.{hollow};
 ghost use Rattle.vcd_hollow.specs.Origins.{origins};
 ghost use Rattle.vcd_hollow.specs.HollowRun.{last_edits};
 ghost use Rattle.vcd_script.specs.Script.{script_lines};
 ghost use Rattle.vcd_remarks.specs.SessionRemarks.{session_remarks};
 ghost use Rattle.vcd_script.specs.RunEnds.{ForOutput, IsOutputFlushed};
-ghost use Rattle.vcd_script.specs.LineRunEnds.{RunsLines};
+ghost use Rattle.vcd_script.specs.SessionLines.{machine_after_lines};
 ghost use Rattle.vcd_script.specs.declared.running.run_error.RunError.TheVariants as run_errors;
 ghost use Rattle.vcd_script.specs.declared.running.script_input.TheConstants.{SCRIPT_LIMIT};
 ghost use Rattle.vcd_amend_run.specs.AmendRunEnds.{pass_ends, AreReady};
@@ -33,7 +36,10 @@ ghost use Rattle.vcd_amend_run.specs.inside.CaptureAfterCuts.{capture_after_cuts
 ghost use Rattle.vcd_amend_run.specs.inside.Running.{RefusesPlan, IsLaterCapture, ShowUpTo};
 ghost use Rattle.vcd_amend_run.specs.inside.Running.{IsPlanned};
 ghost use Rattle.vcd_amend_run.specs.inside.Running.{IsEdited, IsDryRun, HasEditLines};
-ghost use Rattle.vcd_amend_run.specs.inside.Running.{EndsBeforeReplies, EndsBeforeCopy, StopsInRun};
+ghost use Rattle.vcd_amend_run.specs.inside.Running.{EndsBeforeReplies, EndsBeforeCopy};
+ghost use Rattle.vcd_amend_run.specs.inside.Running.{EndsInLines, RunsPlanned};
+ghost use Rattle.vcd_amend_run.specs.inside.PlannedLines.{IsPlannedOn};
+ghost use Rattle.vcd_amend_run.specs.inside.StreamedLines.{ArePlanned};
 ghost use Rattle.vcd_amend_run.specs.inside.Running.{error_of_hearing, error_of_copy};
 ghost use Rattle.vcd_amend_run.specs.inside.Running.{TakesLineRemarks, TakesOutputRemarks};
 ghost use Rattle.vcd_amend_run.specs.inside.Running.{IsAmendedFor};
@@ -45,8 +51,11 @@ use crate::heard_names::HeardNames;
 use crate::hearing::{HearError, hear_all};
 use crate::hollow_reading::{Hollow, outline_of, read_hollow};
 use crate::new_names::takes_skipped_name;
+use crate::planned_lines::{PlannedInput, run_planned_lines};
 use crate::remarks::output_remarks;
+use crate::reopen::Reopen;
 use crate::sharing::share_capture;
+use crate::streamed_line::StreamedLine;
 use std::alloc::Global;
 use vcd_amend::{
     Amendment, CutTicks, DeclaredVariable, FileEdits, amend_marked, amendment_for,
@@ -55,13 +64,12 @@ use vcd_amend::{
 use vcd_copy::{CopyError, Mark, MarkHead};
 use vcd_core::{Capture, NoMemory, SIGNAL_LIMIT, Sink, Source, Word, write_and_flush};
 use vcd_journal::{DEPTH_LIMIT, Session};
-use vcd_remarks::run_remarked_lines;
-use vcd_script::{RunError, RunInput, Summary, read_script};
+use vcd_script::{RunError, Summary, read_script};
 use vcd_text::ReadError;
 
 /// One source of a capture file for each pass over it.
 #[derive(Drop)]
-pub struct Passes<R> {
+pub struct Passes<R, O> {
     /// For its declarations, up to their end.
     pub declarations: R,
     /// For its outline, with the changes that the script is expected to ask for.
@@ -70,6 +78,8 @@ pub struct Passes<R> {
     pub changes: R,
     /// For the copy.
     pub copy: R,
+    /// The file, which is opened once more for each line that is decoded while it is read.
+    pub again: O,
 }
 
 /// Why a file was not amended.
@@ -106,6 +116,8 @@ struct Plan {
     first: Capture,
     skipped: u64,
     script: Vec<u8>,
+    /// The lines that are decoded while the file is read.
+    streamed: Vec<StreamedLine>,
     /// Which signals are left after the last line.
     origins: Vec<usize>,
     /// The cuts in force after the last line, the oldest first.
@@ -188,36 +200,38 @@ impl From<CopyError> for AmendRunError {
 /// The file is read twice, and its declarations once before: with the changes that the script is
 /// expected to ask for, and then for the copy. If it asks for others, the file is read again for
 /// all that it asks for. Only these changes are held, and while a signal is edited its changes
-/// before and after.
+/// before and after. A line that decodes signals which no edit in force reads holds none: for each
+/// such line the file is read once more.
 ///
-/// Before the reply to a line it writes the remarks on it, and before the copy, or if edits are in
+/// Before the reply to a line, or after one that is decoded while the file is read, it writes the
+/// remarks on it, and before the copy, or if edits are in
 /// force without an output, those on the output. If either runs out of memory, or the writer of the
 /// remarks fails, the run goes on without the other remarks. A writer that has failed costs
 /// nothing.
 // seven parameters: only of a `&mut` of its own can a clause say what each device has taken
-pub fn amend_run<R: Source, S: Source, P: Sink, Q: Sink, W: Sink>(
+pub fn amend_run<R: Source, O: Reopen<R>, S: Source, P: Sink, Q: Sink, W: Sink>(
     alloc: Global,
-    passes: &mut Passes<R>,
+    passes: &mut Passes<R, O>,
     script_reader: &mut S,
     replies: &mut P,
     remarks: &mut Q,
     out: Option<&mut W>,
     options: &RunOptions<'_>,
 ) -> Result<Summary, AmendRunError>
-    requires passes_ready { AreReady R.has_failed passes.old }
+    requires passes_ready { AreReady R.has_failed O.has_failed passes.old }
     requires script_ready { S.has_failed script_reader.old ≡ false }
     requires replies_ready { P.has_failed replies.old ≡ false }
     requires out_ready { ForSome out (λ w. W.has_failed w.now ≡ false) }
     requires depth_least { 1 ≤ options.now.depth }
     requires depth_most { options.now.depth ≤ DEPTH_LIMIT }
     ensures ends { ForOutput W.taken W.has_failed out.entry out.exit (λ output. MarkedRunEnds
-        options.now (pass_ends R.coming R.has_failed passes.old passes.new)
+        options.now (pass_ends R.coming R.has_failed O.whole O.has_failed passes.old passes.new)
         (device_end S.coming S.has_failed script_reader.old script_reader.new)
         (device_end P.taken P.has_failed replies.old replies.new) output result) }
     ensures output_flushed { OnOk result (IsOutputFlushed W.is_flushed out.entry out.exit) }
     // whatever the result
     ensures remarked { TakesRemarks options.now.depth
-        (pass_ends R.coming R.has_failed passes.old passes.new)
+        (pass_ends R.coming R.has_failed O.whole O.has_failed passes.old passes.new)
         (device_end S.coming S.has_failed script_reader.old script_reader.new)
         (device_end Q.taken Q.has_failed remarks.old remarks.new) }
 {
@@ -255,27 +269,27 @@ fn refuse_line(is_all_or_nothing: bool, refused: u64) -> Result<(), AmendRunErro
 /// Runs everything but the copy. If the file is to be written, no signal may get the name of a
 /// skipped variable.
 // seven parameters, as of `amend_run`
-fn run_script<R: Source, S: Source, P: Sink, Q: Sink>(
+fn run_script<R: Source, O: Reopen<R>, S: Source, P: Sink, Q: Sink>(
     alloc: Global,
-    passes: &mut Passes<R>,
+    passes: &mut Passes<R, O>,
     script_reader: &mut S,
     replies: &mut P,
     remarks: &mut Q,
     depth: u64,
     writes: bool,
 ) -> Result<Edited, AmendRunError>
-    requires passes_ready { AreReady R.has_failed passes.old }
+    requires passes_ready { AreReady R.has_failed O.has_failed passes.old }
     requires script_ready { S.has_failed script_reader.old ≡ false }
     requires replies_ready { P.has_failed replies.old ≡ false }
     requires depth_least { 1 ≤ depth }
     requires depth_most { depth ≤ DEPTH_LIMIT }
     ensures edited { IfOk result (λ edited. (file lines : List ℕ)
-        → ShowUpTo R.coming passes.old file → S.coming script_reader.old ≡ Some lines
+        → ShowUpTo R.coming O.whole passes.old file → S.coming script_reader.old ≡ Some lines
         → IsEdited file lines depth writes (Appends (P.taken replies.old) (P.taken replies.new))
         (declarations_of edited.declared.items) (contents edited.first) edited.origins.items
         edited.cuts.items edited.session.now edited.refused) }
     ensures lines { IfOk result (λ edited. (file lines : List ℕ)
-        → ShowUpTo R.coming passes.old file → S.coming script_reader.old ≡ Some lines
+        → ShowUpTo R.coming O.whole passes.old file → S.coming script_reader.old ≡ Some lines
         → HasEditLines file lines depth edited.edit_lines.items) }
     ensures sizes { IfOk result (λ edited. HaveSizesOf (contents edited.first).signals
         (declarations_of edited.declared.items)) }
@@ -288,17 +302,17 @@ fn run_script<R: Source, S: Source, P: Sink, Q: Sink>(
     ensures ordered { IfOk result (λ edited. All (λ cut. cut.from ≤ cut.to) edited.cuts.items) }
     ensures copy_kept { passes.new.copy ≡ passes.old.copy }
     ensures fails { IfErr result (EndsBeforeCopy depth writes
-        (pass_ends R.coming R.has_failed passes.old passes.new)
+        (pass_ends R.coming R.has_failed O.whole O.has_failed passes.old passes.new)
         (device_end S.coming S.has_failed script_reader.old script_reader.new)
         (device_end P.taken P.has_failed replies.old replies.new)) }
     ensures remarked { TakesLineRemarks depth
-        (pass_ends R.coming R.has_failed passes.old passes.new)
+        (pass_ends R.coming R.has_failed O.whole O.has_failed passes.old passes.new)
         (device_end S.coming S.has_failed script_reader.old script_reader.new)
         (device_end Q.taken Q.has_failed remarks.old remarks.new) }
 {
     let plan = make_plan(alloc, passes, script_reader, depth)?;
     check_plan(&plan, writes)?;
-    let edited = edit(alloc, plan, replies, remarks, depth)?;
+    let edited = edit(alloc, plan, &mut passes.again, replies, remarks, depth)?;
     Ok(edited)
 }
 
@@ -314,23 +328,23 @@ fn check_plan(plan: &Plan, writes: bool) -> Result<(), AmendRunError>
 }
 
 /// Finds what is needed before the first reply.
-fn make_plan<R: Source, S: Source>(
+fn make_plan<R: Source, O: Reopen<R>, S: Source>(
     alloc: Global,
-    passes: &mut Passes<R>,
+    passes: &mut Passes<R, O>,
     script_reader: &mut S,
     depth: u64,
 ) -> Result<Plan, AmendRunError>
-    requires passes_ready { AreReady R.has_failed passes.old }
+    requires passes_ready { AreReady R.has_failed O.has_failed passes.old }
     requires script_ready { S.has_failed script_reader.old ≡ false }
     requires depth_least { 1 ≤ depth }
     requires depth_most { depth ≤ DEPTH_LIMIT }
     ensures planned { IfOk result (λ plan. (file lines : List ℕ)
-        → ShowUpTo R.coming passes.old file → S.coming script_reader.old ≡ Some lines
+        → ShowUpTo R.coming O.whole passes.old file → S.coming script_reader.old ≡ Some lines
         → IsPlanned file lines depth (declarations_of plan.declared.items) plan.skipped
-        (contents plan.first) plan.origins.items plan.cuts.items plan.takes_skipped_name
-        × (plan.script.items ≡ lines)) }
+        (contents plan.first) plan.streamed.items plan.origins.items plan.cuts.items
+        plan.takes_skipped_name × (plan.script.items ≡ lines)) }
     ensures lines { IfOk result (λ plan. (file lines : List ℕ)
-        → ShowUpTo R.coming passes.old file → S.coming script_reader.old ≡ Some lines
+        → ShowUpTo R.coming O.whole passes.old file → S.coming script_reader.old ≡ Some lines
         → HasEditLines file lines depth plan.edit_lines.items) }
     ensures file_short { OnOk result (IfSome (R.coming passes.old.outline) (λ file.
         length file ≤ LONG_FILE_LIMIT)) }
@@ -338,13 +352,17 @@ fn make_plan<R: Source, S: Source>(
     ensures ordered { IfOk result (λ plan. All (λ cut. cut.from ≤ cut.to) plan.cuts.items) }
     ensures sizes { IfOk result (λ plan. HaveSizesOf (contents plan.first).signals
         (declarations_of plan.declared.items)) }
+    ensures lines_planned { IfOk result (λ plan. ArePlanned (contents plan.first) plan.skipped
+        (λ _. false) 1 (initial_history depth) (script_lines plan.script.items)
+        plan.streamed.items) }
     ensures placed { IfOk result (λ plan. plan.origins.items
         ≡ origins (length (contents plan.first).signals) (last_edits (contents plan.first)
         plan.skipped depth (script_lines plan.script.items))) }
     ensures short { IfOk result (λ plan. length plan.script.items ≤ SCRIPT_LIMIT) }
     ensures copy_kept { passes.new.copy ≡ passes.old.copy }
+    ensures again_kept { passes.new.again ≡ passes.old.again }
     ensures fails { IfErr result (EndsBeforeReplies
-        (pass_ends R.coming R.has_failed passes.old passes.new)
+        (pass_ends R.coming R.has_failed O.whole O.has_failed passes.old passes.new)
         (device_end S.coming S.has_failed script_reader.old script_reader.new)) }
 {
     let declared = declared_variables(alloc, &mut passes.declarations, SIGNAL_LIMIT as u32)?;
@@ -364,6 +382,7 @@ fn make_plan<R: Source, S: Source>(
         first,
         skipped,
         script,
+        streamed: dry.streamed,
         origins: dry.origins,
         cuts: dry.cuts,
         edit_lines: dry.edit_lines,
@@ -431,40 +450,53 @@ fn try_lines(
 }
 
 /// Carries the lines out, and writes the replies and remarks of each.
-fn edit<P: Sink, Q: Sink>(
+// six parameters, as of `amend_run`
+fn edit<R: Source, O: Reopen<R>, P: Sink, Q: Sink>(
     alloc: Global,
     plan: Plan,
+    again: &mut O,
     replies: &mut P,
     remarks: &mut Q,
     depth: u64,
 ) -> Result<Edited, AmendRunError>
     requires ready { P.has_failed replies.old ≡ false }
+    requires again_ready { O.has_failed again.old ≡ false }
     requires sound { IsSound (contents plan.first) }
     requires short { length plan.script.items ≤ SCRIPT_LIMIT }
     requires depth_least { 1 ≤ depth }
     requires depth_most { depth ≤ DEPTH_LIMIT }
-    ensures ran { IfOk result (λ edited. RunsLines plan.skipped (script_lines plan.script.items)
-        (initial_machine (contents plan.first) depth) edited.session edited.refused
-        (P.taken replies.old) (P.taken replies.new)) }
+    ensures ran { IfOk result (λ edited. RunsPlanned (O.whole again.old) (O.has_failed again.new)
+        plan.skipped depth (script_lines plan.script.items) plan.streamed.items
+        (contents plan.first) edited.session edited.refused (P.taken replies.old)
+        (P.taken replies.new)) }
+    ensures session { IfOk result (λ edited. (c : Contents) (silent : ℕ → Bool)
+        → contents plan.first ≡ hollow silent c
+        → ArePlanned c plan.skipped silent 1 (initial_history depth)
+        (script_lines plan.script.items) plan.streamed.items
+        → edited.session ≡ machine_after_lines (initial_machine (contents plan.first) depth)
+        (script_lines plan.script.items)) }
     ensures kept { IfOk result (λ edited. (edited.declared ≡ plan.declared)
         × (contents edited.first ≡ contents plan.first) × (edited.origins ≡ plan.origins)
         × (edited.cuts ≡ plan.cuts) × (edited.edit_lines ≡ plan.edit_lines)) }
     ensures not_failed { OnOk result (P.has_failed replies.new ≡ false) }
-    ensures stops { IfErr result (StopsInRun plan.skipped (script_lines plan.script.items)
-        (initial_machine (contents plan.first) depth)
-        (device_end P.taken P.has_failed replies.old replies.new)) }
-    ensures remarked { (count : ℕ)
-        × HasPrefix (device_end Q.taken Q.has_failed remarks.old remarks.new) count
-        (session_remarks 1 (initial_machine (contents plan.first) depth)
-        (script_lines plan.script.items)) }
+    ensures stops { IfErr result (EndsInLines (O.whole again.old) (O.has_failed again.new)
+        plan.skipped depth (script_lines plan.script.items) plan.streamed.items
+        (contents plan.first) (device_end P.taken P.has_failed replies.old replies.new)) }
+    ensures remarked { (file : List ℕ) (c : Contents) (silent : ℕ → Bool)
+        → O.whole again.old ≡ Some file
+        → IsPlannedOn file plan.skipped depth (script_lines plan.script.items)
+        plan.streamed.items (initial_machine (contents plan.first) depth) c silent
+        → (count : ℕ) × HasPrefix (device_end Q.taken Q.has_failed remarks.old remarks.new) count
+        (session_remarks 1 (initial_machine c depth) (script_lines plan.script.items)) }
 {
     let (first, edited) = share_capture(alloc, plan.first)?;
     let mut session = begin_session(alloc, edited, depth)?;
-    let input = RunInput {
+    let input = PlannedInput {
         script: plan.script.as_slice(),
         skipped: plan.skipped,
+        streamed: plan.streamed.as_slice(),
     };
-    let refused = run_remarked_lines(alloc, &mut session, &input, replies, remarks)?;
+    let refused = run_planned_lines(alloc, &mut session, &input, again, replies, remarks)?;
     Ok(Edited {
         declared: plan.declared,
         first,

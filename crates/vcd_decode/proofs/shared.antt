@@ -5,3 +5,5 @@ pub mod EventsOfTicks
 pub mod EventByEvent
 pub mod EdgeByEdge
 pub mod Falls
+pub mod UartSteps
+pub mod FramesByEdges

@@ -3,6 +3,7 @@ pub mod SetupErrorNames
 pub mod Lines
 pub mod WaveLines
 pub mod LineEdges
+pub mod LineChanges
 pub mod UartSetup
 pub mod AmidBit
 pub mod SetupFaults

@@ -6,3 +6,4 @@ pub mod PartialWord
 pub mod SpiWords
 pub mod SpiSetup
 pub mod i2c_bus
+pub mod EdgeMaker

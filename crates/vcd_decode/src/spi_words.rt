@@ -12,6 +12,7 @@ ghost use Rattle.vcd_decode.specs.inside.SpiWords.{annotations_at_edge, edge_gro
 ghost use Rattle.vcd_decode.specs.inside.SpiWords.{annotations_at_bit, bit_group};
 
 use crate::annotation::Annotation;
+use crate::edge_decoder::{EdgeDecoder, decode_edges};
 use crate::letters::is_zero;
 use crate::partial_word::PartialWord;
 use crate::spi_setup::Spi;
@@ -47,13 +48,8 @@ pub fn spi<'a>(
         (option_map line_of (option_copied miso.entry))
         (option_map line_of (option_copied cs.entry)) end) }
 {
-    let mut found = Vec::new(alloc);
-    let mut decoder = SpiDecoder::new(*setup);
-    for edge in BitEdges::new(Some(clk), mosi, miso, cs) {
-        decoder.take(&mut found, &edge)?;
-    }
-    decoder.finish(&mut found)?;
-    Ok(found)
+    let edges = BitEdges::new(Some(clk), mosi, miso, cs);
+    decode_edges(alloc, SpiDecoder::new(*setup), edges)
 }
 
 /// What [`spi`] does at each edge, for lines whose edges come one at a time. It holds the bits of
@@ -96,23 +92,21 @@ impl SpiDecoder {
             group: PartialWord::new(),
         }
     }
+}
 
-    /// Takes the next edge, and appends the annotation that it completes.
-    pub fn take(&mut self, found: &mut Vec<Annotation>, edge: &BitEdge) -> Result<(), NoMemory>
-        ensures { OnOk result ((more : List BitEdge)
-            → found.new.items ++ spi_annotations_left self.new more
-            ≡ found.old.items ++ spi_annotations_left self.old (edge.now ∷ more)) }
-    {
+impl EdgeDecoder for SpiDecoder {
+    ghost use Rattle.vcd_decode.specs.inside.SpiWords.{spi_annotations_left};
+
+    ghost annotations_left = { spi_annotations_left };
+
+    fn take(&mut self, found: &mut Vec<Annotation>, edge: &BitEdge) -> Result<(), NoMemory> {
         self.group = take_clock_edge(found, &self.setup, &self.group, edge)?;
         Ok(())
     }
 
     /// Appends the number of bits of a word that the end of the capture cuts off.
     #[tactic(auto, unfolding(crate::specs::inside::SpiWords::spi_annotations_left))]
-    pub fn finish(self, found: &mut Vec<Annotation>) -> Result<(), NoMemory>
-        ensures { OnOk result (found.new.items
-            ≡ found.old.items ++ spi_annotations_left self []) }
-    {
+    fn finish(&mut self, found: &mut Vec<Annotation>) -> Result<(), NoMemory> {
         append_unfinished(found, &self.group)
     }
 }

@@ -25,8 +25,8 @@ pub struct Watch {
 /// The line on a pass: what part of the capture's bytes was read.
 ///
 /// It is on standard error, from two seconds after the start of the run on, if that is a terminal,
-/// up to the end of the pass: replies may stand after that. Also on no terminal, it is told once if
-/// what the pass holds may not fit in memory.
+/// up to the end of the pass: replies may stand after that, and where they may stand before, it is
+/// not shown. Also on no terminal, it is told once if what the pass holds may not fit in memory.
 #[derive(Clone, Copy)]
 pub struct ProgressLine {
     watch: Watch,
@@ -39,12 +39,14 @@ pub struct ProgressLine {
     shown: Option<u64>,
     // none for a pass that holds little, or once it is told
     forecast: Option<MemoryForecast>,
+    // replies are written before the end of the pass
+    has_replies: bool,
 }
 
 impl Watch {
     /// Begins to watch a run on a capture of so many bytes.
     pub fn begin<R: Files + Clock>(rt: &R, size: u64) -> Watch {
-        let start = if is_terminal(rt) {
+        let start = if is_terminal(rt, "/proc/self/fd/2") {
             Instant::now(rt).ok()
         } else {
             None
@@ -60,6 +62,13 @@ impl Watch {
     /// The same of a pass that holds changes, of which there is a forecast.
     pub fn line_with_forecast(self, task: &'static str) -> ProgressLine {
         line_of(self, task, Some(MemoryForecast::new(self.size)))
+    }
+
+    /// The same of a pass during which replies are written: it is not shown where these are.
+    pub fn line_with_replies(self, task: &'static str) -> ProgressLine {
+        let mut line = line_of(self, task, None);
+        line.has_replies = true;
+        line
     }
 
     /// Whether the run takes long enough, on a terminal, that the line is shown.
@@ -83,6 +92,7 @@ fn line_of(watch: Watch, task: &'static str, forecast: Option<MemoryForecast>) -
         next: STEP,
         shown: None,
         forecast,
+        has_replies: false,
     }
 }
 
@@ -124,12 +134,17 @@ impl ProgressLine {
     }
 
     /// Shows the line if it is due and has another number.
-    fn show<R: Eprint + Clock>(&mut self, rt: &R) {
+    fn show<R: Files + Eprint + Clock>(&mut self, rt: &R) {
         let percent = (self.read / (self.watch.size / 100 + 1)).min(100);
-        if self.shown != Some(percent) && self.watch.is_due(rt) {
+        if self.shown != Some(percent) && self.watch.is_due(rt) && !self.is_among_replies(rt) {
             self.shown = Some(percent);
             let _ = eprint!(rt; "\rvcdedit-amend: {:<20} {:>3} %", self.task, percent);
         }
+    }
+
+    /// Whether it would stand among replies, since these go to a terminal.
+    fn is_among_replies<R: Files>(&self, rt: &R) -> bool {
+        self.has_replies && is_terminal(rt, "/proc/self/fd/1")
     }
 
     /// Takes the line from the terminal, if it is there.
@@ -141,9 +156,9 @@ impl ProgressLine {
     }
 }
 
-/// Whether standard error is a terminal: the numbers are those that Linux gives to their devices.
-fn is_terminal<R: Files>(files: &R) -> bool {
-    match fs::metadata(files, "/proc/self/fd/2") {
+/// Whether this is a terminal: the numbers are those that Linux gives to their devices.
+fn is_terminal<R: Files>(files: &R, path: &str) -> bool {
+    match fs::metadata(files, path) {
         Ok(found) => {
             let major = (found.rdev() >> 8) & 0xfff;
             found.file_type().is_char_device()

@@ -61,6 +61,7 @@ impl<S: Source> Summed<S> {
     pub fn whole_sum(&mut self) -> Result<u64, DeviceFault>
         ensures sum { IfOk result (λ sum. sum ≡ self.new.sum) }
         ensures at_end { OnOk result (self.new.is_at_end ≡ true) }
+        ensures unread { self.old.is_at_end ≡ true → IfOk result (λ sum. sum ≡ self.old.sum) }
     {
         let mut buffer = [0; CHUNK];
         for _ in 0..u64::MAX {

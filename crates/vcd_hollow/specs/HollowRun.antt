@@ -1,24 +1,23 @@
 -- Runs on captures that lack the waves of silent signals. The project's own.
-use Rattle.std.specs.Prelude.{◌≡◌, ℕ, Bool, false, not, nat_eq, List, [], ◌∷◌, ◌++◌, length, map}
+use Rattle.std.specs.Prelude.{◌≡◌, ℕ, Bool, false, List, [], ◌∷◌, ◌++◌, length, map}
 use Rattle.std.specs.Prelude.{Result, Ok, Err}
-use Rattle.std.specs.List.{AllByRecursion, list_any, flat_map, filter_map, slice_get}
-use Rattle.std.specs.List.{enumerate_from}
+use Rattle.std.specs.List.{AllByRecursion, filter_map, slice_get}
 use Rattle.std.specs.Option.{option_to_list}
 use Rattle.vcd_core.specs.Contents.{Contents}
 use Rattle.vcd_core.specs.Outline.{outline}
 use Rattle.vcd_edit.specs.declared.edit.Edit.{Edit}
 use Rattle.vcd_hollow.specs.OtherWaves.{with_others, HaveOwn, OtherChanges, waves_read}
 use Rattle.vcd_journal.specs.declared.step.Step.TheVariants as steps
-use Rattle.vcd_journal.specs.History.{replay}
+use Rattle.vcd_journal.specs.History.{History, replay}
 use Rattle.vcd_hollow.specs.Origins.{origins}
 use Rattle.vcd_hollow.specs.Cuts.{cuts, CutsFit}
-use Rattle.vcd_hollow.specs.Hollow.{emptied, filled, hollow}
+use Rattle.vcd_hollow.specs.Hollow.{emptied, filled, hollow, ReadOwn}
 use Rattle.vcd_script.specs.declared.script.command.Command.{Command}
 use Rattle.vcd_script.specs.declared.script.command.Command.TheVariants as commands
 use Rattle.vcd_script.specs.declared.script.line_error.LineError.{LineError}
 use Rattle.vcd_script.specs.ScriptCommands.{command_of_line}
 use Rattle.vcd_script.specs.Reply.{line_reply}
-use Rattle.vcd_script.specs.Run.{history_at, capture_at, answers}
+use Rattle.vcd_script.specs.Run.{history_at, capture_at, line_answer}
 
 -- ---- what lines read
 
@@ -42,6 +41,16 @@ waves_asked (Err found) = []
 abbrev pub origins_at : (origins : List ℕ) → List ℕ → List ℕ
 origins_at origins = filter_map (slice_get origins)
 
+-- the positions in the first capture of the signals whose changes a line asks for, which is read
+-- after this history
+abbrev pub origins_of_line : Contents → History → List ℕ → List ℕ
+origins_of_line c h line = origins_at (origins (length c.signals) h.edits)
+    (waves_asked (command_of_line (replay c h.edits) line))
+
+-- none of these signals is silent
+abbrev pub AreHeard : (silent : ℕ → Bool) → List ℕ → Type 0
+AreHeard silent = AllByRecursion (λ k. silent k ≡ false)
+
 -- lines on a capture, from an empty history of this depth on
 module _ (c : Contents) (skipped depth : ℕ) (lines : List (List ℕ)) where
   -- the edits in force after the last line
@@ -52,20 +61,12 @@ module _ (c : Contents) (skipped depth : ℕ) (lines : List (List ℕ)) where
   abbrev pub last_capture : Contents
   last_capture = capture_at c skipped depth lines (length lines)
 
-  -- the positions in the first capture of the signals whose changes a line asks for, after the
-  -- first `count` lines
-  abbrev pub origins_of_line : (count : ℕ) → List ℕ → List ℕ
-  origins_of_line count line =
-      origins_at (origins (length c.signals) (history_at c skipped depth lines count).edits)
-      (waves_asked (command_of_line (capture_at c skipped depth lines count) line))
-
-  -- the same for all lines
-  abbrev pub origins_asked : List ℕ
-  origins_asked = flat_map (λ p. origins_of_line p.0 p.1) (enumerate_from 0 lines)
-
--- none of these signals is silent
-abbrev pub AreHeard : (silent : ℕ → Bool) → List ℕ → Type 0
-AreHeard silent = AllByRecursion (λ k. silent k ≡ false)
+-- the edits in force after any of the lines read the changes of no silent signal
+abbrev pub EditsReadOwn : (silent : ℕ → Bool) → Contents → (skipped depth : ℕ) → List (List ℕ)
+    → Type 0
+EditsReadOwn silent c skipped depth lines =
+    (count : ℕ) → ReadOwn (emptied silent) (length c.signals)
+    (history_at c skipped depth lines count).edits
 
 -- ---- the laws
 
@@ -82,11 +83,11 @@ HistoryIsOfOutline =
     → outline c ≡ outline d
     → history_at c skipped depth lines count ≡ history_at d skipped depth lines count
 
--- and ask for the same signals
+-- and a line asks for the same signals after one history
 abbrev pub AskedIsOfOutline : Type 0
 AskedIsOfOutline =
-    (c d : Contents) (skipped depth : ℕ) (lines : List (List ℕ)) → outline c ≡ outline d
-    → origins_asked c skipped depth lines ≡ origins_asked d skipped depth lines
+    (c d : Contents) (h : History) (line : List ℕ) → outline c ≡ outline d
+    → origins_of_line c h line ≡ origins_of_line d h line
 
 -- the reply to a line, if the signals whose changes it asks for have their own
 abbrev pub ReplyWithOthers : Type 0
@@ -96,13 +97,20 @@ ReplyWithOthers =
     → line_reply line (with_others others c) skipped undoable redoable
     ≡ line_reply line c skipped undoable redoable
 
--- the run of lines on the capture without the changes of silent signals has the same answers and
--- the same histories; its last capture is that of the run on the whole capture without the changes
--- of the silent signals that are left, and gives the whole one back: the cuts alone have changed
--- the silent waves
+-- a line that asks for the changes of no silent signal has the same answer on the capture without
+-- these changes, after edits that read none of them
+abbrev pub AnswerOnHollow : Type 0
+AnswerOnHollow =
+    (silent : ℕ → Bool) (c : Contents) (skipped : ℕ) (h : History) (line : List ℕ)
+    → ReadOwn (emptied silent) (length c.signals) h.edits
+    → AreHeard silent (origins_of_line c h line)
+    → line_answer (hollow silent c) skipped h line ≡ line_answer c skipped h line
+
+-- the run of lines on the capture without the changes of silent signals has the same histories; its
+-- last capture is that of the run on the whole capture without the changes of the silent signals
+-- that are left, and gives the whole one back: the cuts alone have changed the silent waves
 pub record IsSameRun (silent : ℕ → Bool) (c : Contents) (skipped depth : ℕ)
     (lines : List (List ℕ)) : Type 0 where
-  pub same_answers : answers (hollow silent c) skipped depth lines ≡ answers c skipped depth lines
   pub same_histories : (count : ℕ) → history_at (hollow silent c) skipped depth lines count
       ≡ history_at c skipped depth lines count
   pub hollow_capture : last_capture (hollow silent c) skipped depth lines
@@ -115,22 +123,12 @@ pub record IsSameRun (silent : ℕ → Bool) (c : Contents) (skipped depth : ℕ
       (origins (length c.signals) (last_edits c skipped depth lines)))
       (last_capture (hollow silent c) skipped depth lines)
 
--- this holds if the lines ask for the changes of no silent signal
+-- this holds if the edits in force read the changes of no silent signal, whatever other lines ask
+-- for
 abbrev pub RunOnHollow : Type 0
 RunOnHollow =
     (silent : ℕ → Bool) (c : Contents) (skipped depth : ℕ) (lines : List (List ℕ))
-    → AreHeard silent (origins_asked c skipped depth lines)
-    → IsSameRun silent c skipped depth lines
-
--- a signal is silent if it is none of these
-abbrev pub is_none_of : List ℕ → ℕ → Bool
-is_none_of ks k = not (list_any (nat_eq k) ks)
-
--- so a run on the outline finds the signals whose changes have to be known
-abbrev pub RunAfterDryRun : Type 0
-RunAfterDryRun =
-    (c : Contents) (skipped depth : ℕ) (lines : List (List ℕ))
-    → IsSameRun (is_none_of (origins_asked (outline c) skipped depth lines)) c skipped depth lines
+    → EditsReadOwn silent c skipped depth lines → IsSameRun silent c skipped depth lines
 
 -- the cuts in force fit the capture
 abbrev pub CutsOfRunFit : Type 0

@@ -8,8 +8,8 @@ ghost use Rattle.vcd_hollow.specs.Hollow.{ReplayKeepsOutlines, StepsAreOfOutline
 ghost use Rattle.vcd_hollow.specs.Hollow.{SilentAreCutAlone, HollowIsSound};
 ghost use Rattle.vcd_hollow.specs.HollowPart.{HollowIsPart};
 ghost use Rattle.vcd_hollow.specs.HollowRun.{CommandIsOfOutline, HistoryIsOfOutline};
-ghost use Rattle.vcd_hollow.specs.HollowRun.{AskedIsOfOutline, ReplyWithOthers, RunOnHollow};
-ghost use Rattle.vcd_hollow.specs.HollowRun.{RunAfterDryRun, CutsOfRunFit};
+ghost use Rattle.vcd_hollow.specs.HollowRun.{AskedIsOfOutline, ReplyWithOthers, AnswerOnHollow};
+ghost use Rattle.vcd_hollow.specs.HollowRun.{RunOnHollow, CutsOfRunFit};
 
 /// What an outline leaves out, the changes, decides neither whether an edit is refused nor what the
 /// outline is after it. So a script can be tried on names, widths and the end alone.
@@ -57,21 +57,21 @@ pub fn replays_on_hollow_captures()
     ensures sound { HollowIsSound }
 {}
 
-/// What a line asks for, which lines are refused, which edits are in force, and whose changes lines
-/// ask for: all of this depends on the outline of the capture alone.
+/// What a line asks for, whether it is refused, which edits are in force, and whose changes a line
+/// asks for: all of this depends on the outline of the capture alone.
 pub fn lines_are_of_outline()
     ensures command { CommandIsOfOutline }
     ensures history { HistoryIsOfOutline }
     ensures asked { AskedIsOfOutline }
 {}
 
-/// Where the lines ask for the changes of no silent signal, a run on the capture without these
-/// changes has the same answers, and the last capture is known from it. A run on the outline finds
-/// the signals whose changes are asked for.
+/// Where the edits in force read no silent wave, a line that asks for none has the same answer on
+/// the capture without these waves. The last capture is known from a run on that, whatever other
+/// lines ask for.
 pub fn runs_on_hollow_captures()
     ensures reply { ReplyWithOthers }
+    ensures answer { AnswerOnHollow }
     ensures run { RunOnHollow }
-    ensures dry { RunAfterDryRun }
     ensures cuts { CutsOfRunFit }
 {}
 

@@ -1,8 +1,9 @@
 //! Captures that lack the changes of some signals: what edits, steps and lines make of them.
 //!
-//! `waves_of_command` gives the signals whose changes a command asks for. If the lines of a script
-//! ask for the changes of no other signal, a run on a capture without these has the same answers,
-//! and the whole capture is known from it. The laws say so, edit by edit and line by line.
+//! `waves_of_command` gives the signals whose changes a command asks for. Any other signal may lack
+//! its changes: the reply is the same. If the edits in force ask for none that are lacking, the
+//! whole capture is known from what they make of the rest. The laws say so, edit by edit and line
+//! by line.
 //!
 //! The definitions are in `specs/OtherWaves` (edits), `Origins`, `Cuts` and `Hollow` (replays), and
 //! `HollowRun` and `HollowPart` (runs).

@@ -1,3 +1,2 @@
 -- Lemmas of `line_remarks`.
 pub mod RemarksOfLine
-pub mod WrittenRemarks

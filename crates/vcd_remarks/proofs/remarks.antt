@@ -9,7 +9,4 @@ pub mod PulsesTakenOut
 pub mod InvertedTwice
 pub mod DelaysAtTicks
 pub mod NamesOfSeveral
-pub mod ShortRuns
-pub mod NotedRuns
-pub mod UartLine
 pub mod FindingsOfSignals

@@ -1,2 +1,2 @@
 -- Lemmas of `spi_line`.
-pub mod LineEdges
+pub mod DataLeft

@@ -1,2 +1,2 @@
 -- Lemmas of `spi_selection`.
-pub mod SelectionEdges
+pub mod SelectionLeft

@@ -1,11 +1,12 @@
 -- What is found of the lines of a decoder, and may mislead. The project's own.
-use Rattle.std.specs.Prelude.{ℕ, false, Option, Some, None, List, []}
+use Rattle.std.specs.Prelude.{ℕ, ◌≡◌, false, Option, Some, None, List, []}
 use Rattle.std.specs.Prelude.{◌∷◌, ◌++◌}
 use Rattle.std.specs.List.{flat_map}
 use Rattle.std.specs.Option.{option_map}
 use Rattle.vcd_core.specs.declared.bit.Bit.{Bit}
 use Rattle.vcd_core.specs.declared.bit.Bit.TheVariants.{Zero, One}
 use Rattle.vcd_core.specs.Contents.{Contents, SignalContents, signal_at, signal_value}
+use Rattle.vcd_core.specs.Sound.{IsSoundSignal}
 use Rattle.vcd_core.specs.Value.{letter_at}
 use Rattle.vcd_decode.specs.BusEvents.{bus_events}
 use Rattle.vcd_decode.specs.SpiSetup.{SpiSetup}
@@ -15,8 +16,8 @@ use Rattle.vcd_script.specs.declared.script.command.Command.{Command}
 use Rattle.vcd_script.specs.declared.script.command.Command.TheVariants as commands
 use Rattle.vcd_remarks.specs.declared.findings.finding.Finding.{Finding}
 use Rattle.vcd_remarks.specs.declared.findings.finding_kind.FindingKind.TheVariants as kinds
-use Rattle.vcd_remarks.specs.declared.remarks.spi.DataKinds.{DataKinds}
-use Rattle.vcd_remarks.specs.declared.remarks.spi.TheConstants.{MOSI, MISO}
+use Rattle.vcd_remarks.specs.declared.spi_line.DataKinds.{DataKinds}
+use Rattle.vcd_remarks.specs.declared.spi_line.TheConstants.{MOSI, MISO}
 use Rattle.vcd_remarks.specs.BusFindings.{cutting_conditions, stray_bits, open_start}
 use Rattle.vcd_remarks.specs.BusFindings.{has_joint_rise}
 use Rattle.vcd_remarks.specs.ClockRuns.{short_runs, short_beside}
@@ -29,6 +30,10 @@ use Rattle.vcd_remarks.specs.UartEdges.{edges_amid_bits}
 use Rattle.vcd_remarks.specs.UartLine.{early_start, frame_ticks, long_runs, long_bit}
 use Rattle.vcd_remarks.specs.ValueRuns.{value_runs}
 use Rattle.vcd_remarks.specs.declared.lost_lines.Pull.TheVariants.{Floating, Up}
+
+-- a signal is sound, in a capture up to this end, and has one bit
+abbrev pub IsSoundLine : (end : ℕ) → SignalContents → Type 0
+IsSoundLine end s = IsSoundSignal end s × (s.width ≡ 1)
 
 -- the letter of a signal of one bit at each tick
 abbrev pub bit_line : SignalContents → ℕ → Bit
@@ -68,6 +73,19 @@ cs_findings u clk end cs =
     ∷ finding kinds.CsAtEdges (ticks_where (has_edge_at_change u (bit_line clk) (bit_line cs)) end)
     ∷ finding kinds.CsUnselected (unselected_edges u (bit_line clk) (bit_line cs) end) ∷ []
 
+-- of a line that may be absent
+abbrev pub findings_if_any : (SignalContents → List Finding) → Option SignalContents → List Finding
+findings_if_any findings None = []
+findings_if_any findings (Some s) = findings s
+
+-- of the lines of `spi`
+abbrev pub spi_findings : SpiSetup → (clk : SignalContents)
+    → (mosi miso cs : Option SignalContents) → (end : ℕ) → List Finding
+spi_findings u clk mosi miso cs end = clk_findings end clk
+    ++ findings_if_any (data_findings MOSI u clk cs end) mosi
+    ++ findings_if_any (data_findings MISO u clk cs end) miso
+    ++ findings_if_any (cs_findings u clk end) cs
+
 -- of the lines of `i2c`
 abbrev pub bus_findings : (end : ℕ) → (scl sda : SignalContents) → List Finding
 bus_findings end scl sda =
@@ -83,20 +101,12 @@ bus_findings end scl sda =
 abbrev pub told : List Finding → List (List ℕ)
 told fs = flat_map finding_text fs
 
--- those on a line that may be absent
-abbrev pub told_of : (SignalContents → List Finding) → Option SignalContents → List (List ℕ)
-told_of findings None = []
-told_of findings (Some s) = told (findings s)
-
 -- the remarks on the lines of a command that decodes; none on another
 abbrev pub decoder_remarks : Contents → Command → List (List ℕ)
 decoder_remarks c (commands.Uart k u) = told (uart_findings u c.end (signal_at c k))
 decoder_remarks c (commands.Spi clk mosi miso cs u) =
-    let chip = option_map (signal_at c) cs in
-    told (clk_findings c.end (signal_at c clk))
-    ++ told_of (data_findings MOSI u (signal_at c clk) chip c.end) (option_map (signal_at c) mosi)
-    ++ told_of (data_findings MISO u (signal_at c clk) chip c.end) (option_map (signal_at c) miso)
-    ++ told_of (cs_findings u (signal_at c clk) c.end) chip
+    let at = option_map (signal_at c) in
+    told (spi_findings u (signal_at c clk) (at mosi) (at miso) (at cs) c.end)
 decoder_remarks c (commands.I2c scl sda) =
     told (bus_findings c.end (signal_at c scl) (signal_at c sda))
 decoder_remarks c command = []

@@ -11,6 +11,7 @@ pub mod SpiSelection
 pub mod BusFindings
 pub mod UartLine
 pub mod DecoderFindings
+pub mod DecoderLines
 pub mod Remarks
 pub mod RemarkLaws
 pub mod NamedSignals

@@ -1,14 +1,15 @@
 -- The remarks on the lines of a run. The project's own.
-use Rattle.std.specs.Prelude.{◌≡◌, ℕ, ◌+◌, Bool, List, [], ◌++◌, Result, Ok, Err}
+use Rattle.std.specs.Prelude.{◌≡◌, ℕ, ◌+◌, Bool, List, [], ◌++◌, length, Result, Ok, Err}
 use Rattle.std.specs.List.{enumerate_from, flat_map}
 use Rattle.vcd_core.specs.Contents.{Contents}
 use Rattle.vcd_hollow.specs.OtherWaves.{with_others, HaveOwn, OtherChanges}
-use Rattle.vcd_hollow.specs.Hollow.{hollow}
+use Rattle.vcd_hollow.specs.Hollow.{emptied, hollow, ReadOwn}
+use Rattle.vcd_journal.specs.History.{History, replay}
 use Rattle.vcd_script.specs.declared.script.command.Command.{Command}
 use Rattle.vcd_script.specs.declared.script.line_error.LineError.{LineError}
 use Rattle.vcd_script.specs.ScriptCommands.{command_of_line}
 use Rattle.vcd_script.specs.Run.{capture_at}
-use Rattle.vcd_hollow.specs.HollowRun.{waves_of_command, origins_asked, AreHeard}
+use Rattle.vcd_hollow.specs.HollowRun.{waves_of_command, origins_of_line, AreHeard}
 use Rattle.vcd_remarks.specs.NameRemarks.{name_remarks}
 use Rattle.vcd_remarks.specs.Remarks.{remarks, remarks_text}
 
@@ -38,11 +39,12 @@ RemarksWithOthers =
     → HaveOwn others (waves_of_command command)
     → remarks (with_others others c) command ≡ remarks c command
 
--- lines that ask for the changes of no silent signal have the same remarks on the capture without
--- these changes
+-- a line that asks for the changes of no silent signal has the same remarks on the capture without
+-- these changes, after edits that read none of them
 abbrev pub RemarksOnHollow : Type 0
 RemarksOnHollow =
-    (silent : ℕ → Bool) (c : Contents) (skipped depth : ℕ) (lines : List (List ℕ))
-    → AreHeard silent (origins_asked c skipped depth lines)
-    → remarks_of_run (hollow silent c) skipped depth lines
-    ≡ remarks_of_run c skipped depth lines
+    (silent : ℕ → Bool) (c : Contents) (h : History) (number : ℕ) (line : List ℕ)
+    → ReadOwn (emptied silent) (length c.signals) h.edits
+    → AreHeard silent (origins_of_line c h line)
+    → line_remarks number (replay (hollow silent c) h.edits) line
+    ≡ line_remarks number (replay c h.edits) line

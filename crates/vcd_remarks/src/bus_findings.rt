@@ -1,16 +1,11 @@
 //! What is found of the events on an I2C bus.
 
-ghost use Rattle.std.specs.Prelude.{◌≡◌, ◌+◌, ◌<◌, ◌^◌, [], length, false};
-ghost use Rattle.vcd_core.specs.Wave.{AllUpTo};
-ghost use Rattle.vcd_decode.specs.WaveLines.{line_of};
-ghost use Rattle.vcd_decode.specs.BusEvents.{bus_events};
-ghost use Rattle.vcd_decode.specs.inside.i2c_bus.BusWalk.{edge_events};
-ghost use Rattle.vcd_remarks.specs.BusFindings as spec;
-ghost use Rattle.vcd_remarks.specs.FoundTicks.{found_ticks};
+ghost use Rattle.std.specs.Prelude.{◌≡◌};
+ghost use Rattle.vcd_decode.specs.inside.i2c_bus.BusWalk.{edge_event};
 ghost use Rattle.vcd_remarks.specs.inside.BusFindings as walk;
 
 use crate::findings::found_ticks::FoundTicks;
-use vcd_core::{BitEdges, Wave};
+use vcd_core::BitEdge;
 use vcd_decode::{BusEvent, edge_event};
 
 /// What is found of the events on a bus, up to one of them.
@@ -18,7 +13,7 @@ use vcd_decode::{BusEvent, edge_event};
 pub struct BusWalk {
     /// Whether the last condition was a START.
     in_transfer: bool,
-    /// The bits since then.
+    /// The bits since then, as far as a `u64` goes.
     bits: u64,
     /// The conditions that cut a transfer off: they come neither right after an acknowledge nor
     /// after a START.
@@ -29,41 +24,9 @@ pub struct BusWalk {
     pub unstopped: FoundTicks,
 }
 
-/// What is found of the events on a bus with the lines `scl` and `sda`, up to the tick `end`.
-///
-/// It is one walk over the changes of both lines, and takes no memory.
-pub fn i2c_bus_findings<'a>(scl: &'a Wave, sda: &'a Wave, end: u64) -> BusWalk
-    requires scl_one_bit { scl.now.width ≡ 1 }
-    requires sda_one_bit { sda.now.width ≡ 1 }
-    requires scl_ends { AllUpTo end scl.now.changes }
-    requires sda_ends { AllUpTo end sda.now.changes }
-    ensures cuts { result.cuts ≡ found_ticks (spec.cutting_conditions false 0
-        (bus_events (line_of scl.now) (line_of sda.now) end)) }
-    ensures stray { result.stray ≡ found_ticks (spec.stray_bits false 0
-        (bus_events (line_of scl.now) (line_of sda.now) end)) }
-    ensures unstopped { result.unstopped ≡ found_ticks (spec.open_start []
-        (bus_events (line_of scl.now) (line_of sda.now) end)) }
-{
-    walk_edges(BitEdges::new(Some(scl), Some(sda), None, None))
-}
-
-/// What is found of the events at the edges of SCL and SDA.
-fn walk_edges(edges: BitEdges) -> BusWalk
-    requires { length (edge_events edges) < 2 ^ 64 }
-    ensures { result ≡ walk.with_events walk.no_events (edge_events edges.entry) }
-{
-    let mut found = BusWalk::none();
-    for edge in edges {
-        if let Some(event) = edge_event(edge) {
-            found = found.with_event(event);
-        }
-    }
-    found
-}
-
 impl BusWalk {
     /// Before all events.
-    fn none() -> BusWalk
+    pub fn none() -> BusWalk
         ensures { result ≡ walk.no_events }
     {
         BusWalk {
@@ -75,14 +38,23 @@ impl BusWalk {
         }
     }
 
+    /// After the event at an edge of SCL and SDA, if there is one.
+    pub fn with_edge(self, edge: &BitEdge) -> BusWalk
+        ensures { result ≡ walk.with_event_if self (edge_event edge.now) }
+    {
+        match edge_event(*edge) {
+            Some(event) => self.with_event(event),
+            None => self,
+        }
+    }
+
     /// After one more event.
     fn with_event(self, event: BusEvent) -> BusWalk
-        requires { walk.HasRoom self 1 }
         ensures { result ≡ walk.with_event self event }
     {
         match event {
             BusEvent::Bit(bit) => BusWalk {
-                bits: self.bits + 1,
+                bits: self.bits.saturating_add(1),
                 stray: self
                     .stray
                     .with_tick_if(!self.in_transfer & (self.bits > 0), bit.tick),
@@ -103,7 +75,6 @@ impl BusWalk {
 
     /// After a condition at a tick.
     fn with_condition(self, tick: u64) -> BusWalk
-        requires { walk.HasRoom self 1 }
         ensures { result ≡ walk.with_condition self tick }
     {
         let cuts_off = self.in_transfer & (self.bits % 9 != 1);

@@ -24,11 +24,11 @@ pub fn session_remarks_are_run()
     ensures { SessionRemarksAreRun }
 {}
 
-/// Where the lines ask for the changes of no silent signal, a run on the capture without these
-/// changes has the same remarks.
+/// Where the edits in force read no silent wave, a line that asks for none has the same remarks on
+/// the capture without these waves.
 pub fn remarks_on_hollow_captures()
     ensures command { RemarksWithOthers }
-    ensures run { RemarksOnHollow }
+    ensures line { RemarksOnHollow }
 {}
 
 /// The samples that `spi_line_findings` looks at are those of the words

@@ -9,21 +9,19 @@ ghost use Rattle.vcd_remarks.specs.Remarks.{remarks, remarks_text};
 
 pub mod appending;
 mod changes_found;
-mod clock_runs;
 mod decoders;
 mod deglitching;
 mod edits;
 mod names;
 mod runs;
 mod spi;
-mod uart_line;
 
 pub use appending::append_more;
 use decoders::{append_i2c_remarks, append_uart_remarks};
 use edits::append_edit_remarks;
-pub use names::append_name;
-use names::append_name_remarks;
-use spi::{SpiBus, append_spi_remarks};
+pub use names::{append_name, append_name_remarks};
+pub use spi::SpiBus;
+use spi::append_spi_remarks;
 use std::alloc::Global;
 use vcd_core::Capture;
 use vcd_journal::Step;

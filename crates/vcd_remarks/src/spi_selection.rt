@@ -1,53 +1,76 @@
 //! What is found of the chip select of a serial peripheral interface.
 
-ghost use Rattle.std.specs.Prelude.{◌≡◌, ◌∷◌, [], Some};
-ghost use Rattle.vcd_core.specs.Edges.{EachUpTo};
-ghost use Rattle.vcd_core.specs.BitEdges.{EachOneBit};
-ghost use Rattle.vcd_decode.specs.WaveLines.{line_of};
-ghost use Rattle.vcd_remarks.specs.FoundTicks.{found_ticks, ticks_where};
-ghost use Rattle.vcd_remarks.specs.SpiSelection as spec;
+ghost use Rattle.std.specs.Prelude.{◌≡◌, [], ◌∷◌, List};
+ghost use Rattle.vcd_core.specs.declared.bit_edges.BitEdge.{BitEdge};
+ghost use Rattle.vcd_decode.specs.SpiSetup.{SpiSetup};
 ghost use Rattle.vcd_remarks.specs.inside.SpiSelection as inside;
 
+use crate::findings::finding::Finding;
+use crate::findings::finding_kind::FindingKind;
 use crate::findings::found_ticks::FoundTicks;
-use vcd_core::{BitEdge, BitEdges, Wave};
+use crate::lost_lines::{Pull, become_lost};
+use vcd_core::BitEdge;
 use vcd_decode::{Spi, selects_chip};
 
-/// What is found of a chip select.
+/// What is found of a chip select, the last line of edges that come one at a time.
 #[derive(Clone, Copy)]
-pub struct SelectionFindings {
+pub struct SelectionFinder {
+    lost: FoundTicks,
     /// It changes to or from 0 at a sampling edge, and its new value counts.
-    pub changes_at_edges: FoundTicks,
-    /// The sampling edges, if it is 0 at none of them.
-    pub unselected_edges: FoundTicks,
+    at_change: FoundTicks,
+    /// The sampling edges while it is 0, and while it is not.
+    inside: FoundTicks,
+    outside: FoundTicks,
 }
 
-/// What is found of the chip select `cs` beside the clock `clk`, up to the tick `end`.
-///
-/// It is one walk over the changes of both waves, and takes no memory.
-pub fn spi_selection_findings<'a>(
-    clk: &'a Wave,
-    cs: &'a Wave,
-    end: u64,
-    setup: &Spi,
-) -> SelectionFindings
-    requires one_bit { EachOneBit (Some clk.now ∷ Some cs.now ∷ []) }
-    requires ended { EachUpTo end (Some clk.now ∷ Some cs.now ∷ []) }
-    ensures changes { result.changes_at_edges ≡ found_ticks (ticks_where
-        (spec.has_edge_at_change setup.now (line_of clk.now) (line_of cs.now)) end) }
-    ensures unselected { result.unselected_edges
-        ≡ found_ticks (spec.unselected_edges setup.now (line_of clk.now) (line_of cs.now) end) }
-{
-    let mut at_change = FoundTicks::none();
-    let mut inside = FoundTicks::none();
-    let mut outside = FoundTicks::none();
-    for edge in BitEdges::new(Some(clk), None, None, Some(cs)) {
-        at_change = at_change.with_tick_if(samples_at_change(setup, &edge), edge.tick);
-        inside = inside.with_tick_if(samples_inside(setup, &edge), edge.tick);
-        outside = outside.with_tick_if(samples_outside(setup, &edge), edge.tick);
+impl SelectionFinder {
+    /// Before the first edge.
+    pub fn none() -> SelectionFinder
+        ensures { result ≡ inside.no_selection }
+    {
+        SelectionFinder {
+            lost: FoundTicks::none(),
+            at_change: FoundTicks::none(),
+            inside: FoundTicks::none(),
+            outside: FoundTicks::none(),
+        }
     }
-    SelectionFindings {
-        changes_at_edges: at_change,
-        unselected_edges: outside.unless_any(inside),
+
+    /// Takes the next edge.
+    pub fn take(&mut self, setup: &Spi, edge: &BitEdge)
+        ensures { (more : List BitEdge) → inside.cs_left setup.now self.new more
+            ≡ inside.cs_left setup.now self.old (edge.now ∷ more) }
+    {
+        *self = self.with_edge(setup, edge);
+    }
+
+    /// The finder after one more edge.
+    fn with_edge(self, setup: &Spi, edge: &BitEdge) -> SelectionFinder
+        ensures { result ≡ inside.with_edge setup.now self edge.now }
+    {
+        let tick = edge.tick;
+        let lost = become_lost(Pull::Floating, edge.before[3], edge.at[3]);
+        let at_change = samples_at_change(setup, edge);
+        SelectionFinder {
+            lost: self.lost.with_tick_if(lost, tick),
+            at_change: self.at_change.with_tick_if(at_change, tick),
+            inside: self.inside.with_tick_if(samples_inside(setup, edge), tick),
+            outside: self
+                .outside
+                .with_tick_if(samples_outside(setup, edge), tick),
+        }
+    }
+
+    /// What was found.
+    pub fn findings(&self) -> [Finding; 3]
+        ensures { (setup : SpiSetup) → result ≡ inside.cs_left setup self.now [] }
+    {
+        let unselected = self.outside.unless_any(self.inside);
+        [
+            self.lost.of_kind(FindingKind::CsLost),
+            self.at_change.of_kind(FindingKind::CsAtEdges),
+            unselected.of_kind(FindingKind::CsUnselected),
+        ]
     }
 }
 

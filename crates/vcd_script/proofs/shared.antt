@@ -3,5 +3,4 @@ pub mod LinesAndHistory
 pub mod LawsOfRun
 pub mod AnsweredLines
 pub mod LinesLeft
-pub mod ObservedLines
 pub mod PartsOfRun

@@ -11,9 +11,9 @@ pub mod ScriptFaults
 pub mod Queries
 pub mod CommandSignals
 pub mod DecoderReply
+pub mod AnnotationLines
 pub mod Reply
 pub mod SessionLines
-pub mod ObservedLines
 pub mod LineRunEnds
 pub mod Run
 pub mod FileLaws

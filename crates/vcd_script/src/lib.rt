@@ -12,8 +12,7 @@
 //! A caller that has a session carries lines out on it: [`run_lines`] all of them, or one at a time
 //! [`answer_line`], which gives a [`Reply`]. [`split_line`] takes a line off a script, and
 //! [`parse_line`] says what it asks for, and changes nothing; [`waves_of_command`] says whose
-//! changes that needs. A [`LineObserver`] is shown each line. The laws say what follows from these
-//! contracts.
+//! changes that needs. The laws say what follows from these contracts.
 #![tactic(auto)]
 
 mod laws;
@@ -23,9 +22,12 @@ mod script;
 
 pub use laws::{cut_file_is_read_again, same_bytes_same_result, session_lines_are_run};
 pub use replies::appending::{append_bytes, append_decimal, append_number};
-pub use replies::{MemoryResult, Reply, answer_line, is_no_memory, scalar_wave, wave_or_absent};
+pub use replies::{
+    MemoryResult, Reply, answer_line, append_annotations, is_no_memory, nibbles, scalar_wave,
+    wave_or_absent,
+};
 pub use running::run::run;
-pub use running::run_lines::{RunInput, run_lines};
+pub use running::run_lines::run_lines;
 pub use running::run_on_bytes::{RunRefusal, RunTexts, Stage, run_on_bytes};
-pub use running::{LineObserver, RunError, SCRIPT_LIMIT, Summary, Unobserved, read_script};
+pub use running::{RunError, SCRIPT_LIMIT, Summary, read_script};
 pub use script::{Command, Keyword, LineError, parse_line, split_line};

@@ -8,8 +8,9 @@ mod listing;
 mod reply;
 mod waves;
 
+pub use annotations::append_annotations;
 pub use answering::{answer_line, is_no_memory};
-pub use decoding::{scalar_wave, wave_or_absent};
+pub use decoding::{nibbles, scalar_wave, wave_or_absent};
 pub use reply::Reply;
 use vcd_core::NoMemory;
 

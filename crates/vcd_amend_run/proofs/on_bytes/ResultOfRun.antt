@@ -1,6 +1,7 @@
 -- Bytes in memory amended by a script: what is given follows from how the run ended.
 use Rattle.std.proofs.Common.{◌≡◌, Ok, Err, ℕ, zero, suc, List, [], Option, Some, None, false, true}
 use Rattle.std.proofs.Common.{sym, ap, subst, ◌∙◌, ◌<◌, ◌≤◌, inl, inr, take, length}
+use Rattle.std.proofs.Math.Seq.{take-length}
 use Rattle.std.specs.Prelude.{◌⊎◌}
 use Rattle.std.specs.List.{concat}
 use Rattle.vcd_core.specs.declared.capture.TheConstants.{SIGNAL_LIMIT}
@@ -115,7 +116,7 @@ module _ (file script : List ℕ) (depth : ℕ) (made : List ℕ) (passes : Pass
 
   module _ (lines_ready : lines.has_failed ≡ false) (declarations_ready : passes.declarations.has_failed ≡ false)
       (outline_ready : passes.outline.has_failed ≡ false) (changes_ready : passes.changes.has_failed ≡ false)
-      (copy_ready : passes.copy.has_failed ≡ false) where
+      (copy_ready : passes.copy.has_failed ≡ false) (again_ready : passes.again.has_failed ≡ false) where
     -- and where an error ended it
     pub refusal_of_run : (e : AmendRunError)
         → MarkedRunEnds (plain depth) passes lines replies (Some output) (Err e)
@@ -127,11 +128,27 @@ module _ (file script : List ℕ) (depth : ℕ) (made : List ℕ) (passes : Pass
         (refused_in file passes.outline e shows.1 outline_ready fails, inl (nothing_made unwritten.0))
     refusal_of_run (errors.Run (run_errors.Capture e)) (inl (inr (inr fails), unwritten)) =
         (refused_in file passes.changes e shows.2 changes_ready fails, inl (nothing_made unwritten.0))
-    refusal_of_run (errors.Run (run_errors.Capture e)) (inr (fails, replied)) =
+    refusal_of_run (errors.Run (run_errors.Capture e)) (inr (inl (fails, kept, replied))) =
+        let one = rw (was_empty, sym made_is) at (replied file script shows is_script) in
+        let run = run_of_amend_run file script depth one.0 one.1 in (
+          refused_file file fails.0 e (rw (shows.4, again_ready) at fails.1.refused),
+          inr (
+            run.0,
+            run.1,
+            one.2.0,
+            one.2.1.1 ∙ ap (λ (texts : List (List ℕ)). take one.2.0 (concat texts)) run.2,
+          ),
+        )
+    refusal_of_run (errors.Run (run_errors.Capture e)) (inr (inr (fails, replied))) =
         let one = rw (was_empty, sym made_is) at (replied file script shows is_script) in
         let run = run_of_amend_run file script depth one.0 one.1 in (
           refused_in file passes.copy e shows.3 copy_ready fails,
-          inr (run.0, run.1, one.2 ∙ ap concat run.2),
+          inr (
+            run.0,
+            run.1,
+            length (concat run.0.replies),
+            one.2 ∙ ap concat run.2 ∙ sym (take-length (concat run.0.replies)),
+          ),
         )
     refusal_of_run (errors.Run run_errors.ScriptTooLarge) ends = (rw is_script at ends.0, nothing_made ends.1.0)
     refusal_of_run (errors.Run run_errors.ScriptReadFault) ends =
@@ -139,16 +156,29 @@ module _ (file script : List ℕ) (depth : ℕ) (made : List ℕ) (passes : Pass
     refusal_of_run (errors.Run (run_errors.NoMemory zero)) ends = nothing_made ends.0
     refusal_of_run (errors.Run (run_errors.NoMemory (suc before))) ends =
         let one = rw (was_empty, sym made_is) at (ends.1 file script shows is_script) in
+        let run = run_of_amend_run file script depth one.0 one.1 in
+        let (less, count, least, most, is) = in_part run.0 one.0 run.2 one.2 in
+        (run.0, run.1, less, count, least, most, is)
+      where
+        in_part : (w v : RunOutcome) → v.replies ≡ w.replies
+            → (before < length v.replies) × (count : ℕ) × (length (concat (take before v.replies)) ≤ count)
+            × (count ≤ length (concat (take (suc before) v.replies)))
+            × ((count ≤ length (concat v.replies)) × (made ≡ take count (concat v.replies)))
+            → (before < length w.replies) × (count : ℕ) × (length (concat (take before w.replies)) ≤ count)
+            × (count ≤ length (concat (take (suc before) w.replies))) × (made ≡ take count (concat w.replies))
+        in_part w v same (less, count, least, most, (within, is)) =
+            subst (λ (texts : List (List ℕ)). (before < length texts) × (n : ℕ)
+            × (length (concat (take before texts)) ≤ n) × (n ≤ length (concat (take (suc before) texts)))
+            × (made ≡ take n (concat texts))) same (less, count, least, most, is)
+    refusal_of_run (errors.Run (run_errors.ReplyFault bytes)) ends =
+        let one = rw (was_empty, sym made_is) at (ends.2 file script shows is_script) in
         let run = run_of_amend_run file script depth one.0 one.1 in (
           run.0,
           run.1,
-          subst (λ (texts : List (List ℕ)). before < length texts) run.2 one.2.0,
-          one.2.1 ∙ ap (λ (texts : List (List ℕ)). concat (take before texts)) run.2,
+          one.2.0,
+          one.2.1,
+          one.2.2.1 ∙ ap (λ (texts : List (List ℕ)). take one.2.0 (concat texts)) run.2,
         )
-    refusal_of_run (errors.Run (run_errors.ReplyFault count)) ends =
-        let one = rw (was_empty, sym made_is) at (ends.2 file script shows is_script) in
-        let run = run_of_amend_run file script depth one.0 one.1 in
-        (run.0, run.1, one.2.1 ∙ ap (λ (texts : List (List ℕ)). take count (concat texts)) run.2)
     refusal_of_run (errors.Run (run_errors.Write e)) ends =
         let one = rw (was_empty, sym made_is) at (ends.run file script shows is_script) in
         let run = run_of_amend_run file script depth one.0 (unmarked_run file script depth one.0 one.1) in

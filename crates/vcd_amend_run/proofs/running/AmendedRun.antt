@@ -18,8 +18,7 @@ use Rattle.vcd_journal.specs.History.{replay}
 use Rattle.vcd_hollow.specs.Origins.{origins}
 use Rattle.vcd_hollow.specs.Cuts.{cuts}
 use Rattle.vcd_hollow.specs.Hollow.{emptied, filled, hollow}
-use Rattle.vcd_hollow.specs.HollowRun.{last_edits, last_capture, origins_asked, AreHeard, IsSameRun}
-use Rattle.vcd_hollow.proofs.shared.HollowRuns.{run_on_hollow}
+use Rattle.vcd_hollow.specs.HollowRun.{last_edits, last_capture, IsSameRun}
 use Rattle.vcd_amend.specs.Amendment.{Amendment}
 use Rattle.vcd_amend.specs.AmendedText.{amended_text}
 use Rattle.vcd_amend.specs.GivenCodes.{amendment_for}
@@ -51,7 +50,7 @@ IsKnownAmendment s firsts ks ss a =
 
 -- where the state `t` is that of the file after the cuts in force
 module _ (s t : ParseState) (silent : ℕ → Bool) (skipped depth : ℕ) (lines : List (List ℕ)) (a : Amendment)
-    (asked : AreHeard silent (origins_asked (meaning s) skipped depth lines))
+    (same : IsSameRun silent (meaning s) skipped depth lines)
     (after : IsAfterCuts s t (last_edits (meaning s) skipped depth lines)) where
   abbrev c : Contents
   c = meaning s
@@ -70,9 +69,6 @@ module _ (s t : ParseState) (silent : ℕ → Bool) (skipped depth : ℕ) (lines
 
   abbrev ss : List SignalContents
   ss = (last_capture (hollow silent c) skipped depth lines).signals
-
-  same : IsSameRun silent c skipped depth lines
-  same = run_on_hollow silent c skipped depth lines asked
 
   count : length d.signals ≡ length c.signals
   count = ap (λ (e : Contents). length e.signals) after.means ∙ count_after_cuts c es
@@ -145,11 +141,11 @@ module _ (file : List ℕ) (pieces marked : List Piece) (tail : List ℕ) (c : C
   sound = sound_pieces file pieces tail c skipped is
 
   -- the amendment is that of the run
-  pub known_is_of_run : (silent : ℕ → Bool) (a : Amendment) → AreHeard silent (origins_asked c skipped depth lines)
+  pub known_is_of_run : (silent : ℕ → Bool) (a : Amendment) → IsSameRun silent c skipped depth lines
       → IsKnownForRun silent c skipped depth lines marked a → a ≡ amendment_of_run c skipped depth lines marked
   known_is_of_run silent a =
       let count : ℕ = count_by is_skipped state.declared in
-      let IsForRun : Contents → ℕ → Type 0 = λ d n. AreHeard silent (origins_asked d n depth lines)
+      let IsForRun : Contents → ℕ → Type 0 = λ d n. IsSameRun silent d n depth lines
       → IsKnownForRun silent d n depth lines marked a → a ≡ amendment_of_run d n depth lines marked in
       let here : IsForRun (meaning state) count = λ heard known.
       amendment_is_for_run state
@@ -160,7 +156,7 @@ module _ (file : List ℕ) (pieces marked : List Piece) (tail : List ℕ) (c : C
 
   -- and the amended file is the edited one
   pub amended_text_is_edited : (silent : ℕ → Bool) (a : Amendment)
-      → AreHeard silent (origins_asked c skipped depth lines) → IsKnownForRun silent c skipped depth lines marked a
+      → IsSameRun silent c skipped depth lines → IsKnownForRun silent c skipped depth lines marked a
       → amended_text a true (initial_state SIGNAL_LIMIT) (pieces_after_cuts c skipped depth lines marked) tail
       ≡ edited_text c skipped depth lines marked tail
   amended_text_is_edited silent a asked is_known =

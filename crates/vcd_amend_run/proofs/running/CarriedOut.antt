@@ -1,11 +1,10 @@
 -- The script carried out: its replies, and the text that the run gives.
-use Rattle.std.proofs.Common.{◌≡◌, ℕ, List, Option}
-use Rattle.std.proofs.Common.{refl, sym, subst, ap, ◌∙◌, Bool, true, false, map, length}
-use Rattle.std.specs.Prelude.{is_err, count_by}
-use Rattle.std.specs.List.{concat, enumerate_from}
+use Rattle.std.proofs.Common.{◌≡◌, ◌+◌, ℕ, List, [], ◌∷◌, Option, map}
+use Rattle.std.proofs.Common.{refl, sym, subst, ap, ◌∙◌, Bool, true, false, Some, length}
+use Rattle.std.specs.List.{concat, range_with_len}
 use Rattle.std.specs.Io.KnownBytes.{Appends}
 use Rattle.vcd_core.specs.declared.capture.TheConstants.{SIGNAL_LIMIT}
-use Rattle.vcd_core.specs.Contents.{Contents}
+use Rattle.vcd_core.specs.Contents.{Contents, SignalContents}
 use Rattle.vcd_text.specs.Grammar.{ParseState, VariableDeclaration}
 use Rattle.vcd_text.specs.Meaning.{FileMeans}
 use Rattle.vcd_edit.specs.declared.edit.Edit.{Edit}
@@ -15,13 +14,13 @@ use Rattle.vcd_hollow.specs.Origins.{origins}
 use Rattle.vcd_core.specs.SignalOrigins.{RiseWithin, ComeFrom}
 use Rattle.vcd_hollow.proofs.shared.Origins.{origins_rise, signals_come_from_origins}
 use Rattle.vcd_hollow.specs.Cuts.{cuts}
-use Rattle.vcd_hollow.specs.Hollow.{hollow}
+use Rattle.vcd_hollow.specs.Hollow.{hollow, emptied}
+use Rattle.vcd_hollow.specs.OtherWaves.{signals_with_others}
 use Rattle.vcd_script.specs.Script.{script_lines}
-use Rattle.vcd_script.specs.Reply.{LineReply, reply_text}
 use Rattle.vcd_script.specs.Run.{RunOutcome, outcome}
 use Rattle.vcd_script.specs.LineRunEnds.{RunsLines}
+use Rattle.vcd_script.specs.SessionLines.{machine_after_lines}
 use Rattle.vcd_hollow.specs.HollowRun.{last_edits}
-use Rattle.vcd_hollow.specs.HollowRun.{IsSameRun}
 use Rattle.vcd_hollow.proofs.shared.HollowRuns.{run_on_hollow}
 use Rattle.vcd_script.proofs.shared.LinesAndHistory.{outcome_is, last_capture as last_machine}
 use Rattle.vcd_copy.specs.Pieces.{Piece, state_of_pieces}
@@ -31,7 +30,9 @@ use Rattle.vcd_amend.specs.declared.cut_ticks.CutTicks.{CutTicks}
 use Rattle.vcd_amend.specs.KnownSignals.{IsAmendmentFor}
 use Rattle.vcd_amend_run.specs.EditedText.{PiecesMean, edited_text, pieces_after_cuts}
 use Rattle.vcd_amend_run.specs.AmendRun.{IsAmendRun}
-use Rattle.vcd_amend_run.specs.inside.Running.{IsLaterCapture, IsPlanned, IsEdited}
+use Rattle.vcd_amend_run.specs.declared.streamed_line.StreamedLine.{StreamedLine}
+use Rattle.vcd_amend_run.specs.inside.Running.{IsLaterCapture, IsPlanned, IsEdited, RunsPlanned}
+use Rattle.vcd_amend_run.proofs.streamed_lines.Plans.{planned_reads_own}
 use Rattle.vcd_amend_run.proofs.laws.EditedFiles.{accepted_file_has_pieces, HaveStateBut}
 use Rattle.vcd_amend_run.proofs.running.AmendedRun.{IsKnownAmendment, IsKnownForRun, cut_is_accepted}
 use Rattle.vcd_amend_run.proofs.running.AmendedRun.{declared_after_cuts}
@@ -39,66 +40,67 @@ use Rattle.vcd_amend_run.proofs.running.CutsInForce.{cuts_are_replayed, hollow_a
 
 -- ---- the script carried out
 
--- the replies and the refusals on the hollow capture are those on the whole one
-pub same_replies : (silent : ℕ → Bool) (c : Contents) (skipped depth : ℕ) (lines : List (List ℕ))
-    → IsSameRun silent c skipped depth lines
-    → ((outcome (hollow silent c) skipped depth lines).replies ≡ (outcome c skipped depth lines).replies)
-    × ((outcome (hollow silent c) skipped depth lines).refused ≡ (outcome c skipped depth lines).refused)
-same_replies silent c skipped depth lines same = (
-  ap (λ (given : List LineReply). map (λ (p : ℕ × LineReply). reply_text p.0 p.1) (enumerate_from 1 given))
-      same.same_answers,
-  ap (λ (given : List LineReply). count_by is_err given) same.same_answers,
-)
-
+-- from a plan whose lines were run
 pub is_edited : (file lines script : List ℕ) (depth : ℕ) (writes : Bool) (declared : List VariableDeclaration)
-    (skipped : ℕ) (first : Contents) (ks : List ℕ) (cs : List CutTicks) (takes : Bool) (new : Machine) (refused : ℕ)
-    (before after : Option (List ℕ))
-    → IsPlanned file lines depth declared skipped first ks cs takes × (script ≡ lines)
-    → (writes ≡ true → takes ≡ false)
-    → RunsLines skipped (script_lines script) (initial_machine first depth) new refused before after
+    (skipped : ℕ) (first : Contents) (streamed : List StreamedLine) (ks : List ℕ) (cs : List CutTicks) (takes : Bool)
+    (shown : Option (List ℕ)) (again_failed : Bool) (new : Machine) (refused : ℕ) (before after : Option (List ℕ))
+    → IsPlanned file lines depth declared skipped first streamed ks cs takes × (script ≡ lines)
+    → (writes ≡ true → takes ≡ false) → shown ≡ Some file
+    → RunsPlanned shown again_failed skipped depth (script_lines script) streamed first new refused before after
     → IsEdited file lines depth writes (Appends before after) declared first ks cs new.now refused
-is_edited file lines script depth writes declared skipped first ks cs takes new refused before after planned free ran =
+is_edited file lines script depth writes declared skipped first streamed ks cs takes shown again_failed new refused
+    before after planned free shows ran =
     let plan = planned.0 in
     let c : Contents = plan.whole in
     let all : List (List ℕ) = script_lines lines in
     let h : Contents = hollow plan.silent c in
-    let here : RunsLines skipped all (initial_machine h depth) new refused before after =
-    subst (λ s. RunsLines skipped (script_lines s) (initial_machine h depth) new refused before after) planned.1
-    (subst (λ (d : Contents). RunsLines skipped (script_lines script) (initial_machine d depth) new refused before
-    after)
-    plan.hollow_is ran) in
-    let gives = here.2 in
-    let same = same_replies plan.silent c skipped depth all (run_on_hollow plan.silent c skipped depth all plan.heard)
-    in
-    let is = outcome_is h skipped depth all in
-    let replies : (outcome c skipped depth all).replies ≡ here.0 =
-    sym same.0 ∙ ap (λ (o : RunOutcome). o.replies) is ∙ gives.replies in
+    let here : RunsLines skipped all (initial_machine c depth) (machine_after_lines (initial_machine c depth) all)
+    refused before after × (new ≡ machine_after_lines (initial_machine h depth) all) =
+    subst (λ s. RunsPlanned shown again_failed skipped depth (script_lines s) streamed first new refused before after)
+    planned.1 ran file depth c plan.silent shows (record {
+      means = plan.means;
+      session_is = ap (λ (d : Contents). initial_machine d depth) plan.hollow_is;
+      planned = plan.planned;
+    }) in
+    let gives = here.0.2 in
+    let is = outcome_is c skipped depth all in
+    let replies : (outcome c skipped depth all).replies ≡ here.0.0 =
+    ap (λ (o : RunOutcome). o.replies) is ∙ gives.replies in
     record {
       whole = c;
       skipped = skipped;
       silent = plan.silent;
       means = plan.means;
-      heard = plan.heard;
+      same = run_on_hollow plan.silent c skipped depth all
+          (planned_reads_own c skipped depth plan.silent all streamed plan.planned);
       hollow_is = plan.hollow_is;
-      last_is = ap (λ (m : Machine). m.now) (sym gives.after) ∙ sym (last_machine h skipped depth all);
+      last_is = ap (λ (m : Machine). m.now) here.1 ∙ sym (last_machine h skipped depth all);
       origins_are = plan.origins_are;
       cuts_are = plan.cuts_are;
       free = λ asked. sym plan.names ∙ free asked;
       variables = plan.variables;
-      replies = subst (λ (texts : List (List ℕ)). Appends before after (concat texts)) (sym replies) here.1;
-      count = sym gives.refused ∙ sym (ap (λ (o : RunOutcome). o.refused) is) ∙ same.1;
+      replies = subst (λ (texts : List (List ℕ)). Appends before after (concat texts)) (sym replies) here.0.1;
+      count = sym gives.refused ∙ sym (ap (λ (o : RunOutcome). o.refused) is);
     }
+
+-- a capture of which no signal is silent
+pub hollow_of_none : (c : Contents) → hollow (λ k. false) c ≡ c
+hollow_of_none c = ap (λ (ss : List SignalContents). record c { signals = ss }) (all_own 0 c.signals)
+  where
+    all_own : (n : ℕ) (ss : List SignalContents)
+        → signals_with_others (map (emptied (λ k. false)) (range_with_len n (length ss))) ss ≡ ss
+    all_own n [] = refl
+    all_own n (s ∷ ss) = ap (λ (rest : List SignalContents). s ∷ rest) (all_own (n + 1) ss)
 
 -- the last capture comes from the first
 pub comes_from : (first : Contents) (skipped depth : ℕ) (lines : List (List ℕ)) (ks : List ℕ) (new : Machine)
-    (refused : ℕ) (before after : Option (List ℕ))
     → ks ≡ origins (length first.signals) (last_edits first skipped depth lines)
-    → RunsLines skipped lines (initial_machine first depth) new refused before after
+    → new ≡ machine_after_lines (initial_machine first depth) lines
     → IsLaterCapture first ks new.now
-comes_from first skipped depth lines ks new refused before after placed ran =
+comes_from first skipped depth lines ks new placed ran =
     let es : List Edit = last_edits first skipped depth lines in
     let now : replay first es ≡ new.now =
-    last_machine first skipped depth lines ∙ ap (λ (m : Machine). m.now) ran.2.after in
+    last_machine first skipped depth lines ∙ ap (λ (m : Machine). m.now) (sym ran) in
     record {
       rising = subst (RiseWithin 0 (length first.signals)) (sym placed) (origins_rise (length first.signals) es);
       come = subst (λ (os : List ℕ). ComeFrom first os new.now.signals) (sym placed)

@@ -13,12 +13,11 @@ use Rattle.vcd_core.specs.Devices.{DeviceEnd, IsUntouched, HasPrefix, HasText}
 use Rattle.vcd_text.specs.Words.{words_of}
 use Rattle.vcd_text.specs.Grammar.{ParseState, VariableDeclaration, Accepts}
 use Rattle.vcd_amend.specs.DeclaredVariables.{HaveSizesOf}
+use Rattle.vcd_journal.specs.History.{initial_history}
 use Rattle.vcd_journal.specs.Machine.{initial_machine}
 use Rattle.vcd_text.proofs.shared.ResultIsUnique.{one_meaning}
-use Rattle.vcd_hollow.specs.Hollow.{hollow}
 use Rattle.vcd_script.specs.Script.{script_lines}
 use Rattle.vcd_script.specs.Run.{RunOutcome}
-use Rattle.vcd_hollow.proofs.shared.HollowRuns.{run_on_hollow}
 use Rattle.vcd_script.proofs.shared.LinesAndHistory.{outcome_is}
 use Rattle.vcd_copy.specs.CopyEnds.{CopyFails, TookFirst}
 use Rattle.vcd_text.specs.WriteEnds.{TookBefore}
@@ -42,14 +41,18 @@ use Rattle.vcd_amend.specs.declared.cut_ticks.CutTicks.{CutTicks}
 use Rattle.vcd_amend_run.specs.AmendRun.{IsAmendRun}
 use Rattle.vcd_amend_run.specs.FileParts.{HasOutline, HasOtherOutline, HearFails}
 use Rattle.vcd_amend_run.specs.AmendRunEnds.{PassEnds, AllShow, FailsIn, ForAmendRun, IsShortFile, AmendRunEnds}
+use Rattle.vcd_amend_run.specs.AmendRunEnds.{FailsOnceMore}
+use Rattle.vcd_amend_run.specs.declared.streamed_line.StreamedLine.{StreamedLine}
+use Rattle.vcd_amend_run.specs.inside.PlannedLines.{IsPlannedOn, StopsInPlanned, StopsInLinesPlanned}
+use Rattle.vcd_amend_run.specs.inside.StreamedLines.{ArePlanned}
 use Rattle.vcd_amend_run.specs.inside.Running.{RefusesPlan}
 use Rattle.vcd_amend_run.specs.inside.Running.{IsPlanned, IsEdited, EndsBeforeReplies}
 use Rattle.vcd_amend_run.specs.inside.Running.{EndsBeforeCopy, HasEditLines, IsAmendedFor}
 use Rattle.vcd_amend_run.specs.MarkedRun.{MarkedRunEnds, IsMarkedRun, mark_with}
 use Rattle.vcd_amend_run.specs.declared.running.RunOptions.{RunOptions}
-use Rattle.vcd_amend_run.specs.inside.Running.{StopsInRun, error_of_hearing, error_of_copy}
+use Rattle.vcd_amend_run.specs.inside.Running.{EndsInLines, error_of_hearing, error_of_copy}
 use Rattle.vcd_amend_run.proofs.running.PlannedRun.{sizes_agree, names_of_file}
-use Rattle.vcd_amend_run.proofs.running.CarriedOut.{is_run, same_replies}
+use Rattle.vcd_amend_run.proofs.running.CarriedOut.{is_run}
 use Rattle.vcd_amend_run.proofs.running.MarkedRun.{marked_is_written, marked_run}
 
 -- ---- after the last reply
@@ -60,7 +63,7 @@ module _ (depth : ℕ) (passes : PassEnds) (script replies : DeviceEnd) (declare
   abbrev pub AreEdited : Bool → Type 0
   AreEdited writes = (file lines : List ℕ)
       → (passes.declarations.before ≡ Some file) × (passes.outline.before ≡ Some file)
-      × (passes.changes.before ≡ Some file) → script.before ≡ Some lines
+      × (passes.changes.before ≡ Some file) × (passes.again.before ≡ Some file) → script.before ≡ Some lines
       → IsEdited file lines depth writes (Appends replies.before replies.after) declared first ks cs last refused
 
   -- the outline was read of a file that is not too long
@@ -77,7 +80,7 @@ module _ (depth : ℕ) (passes : PassEnds) (script replies : DeviceEnd) (declare
     tt,
     short_file short,
     λ file lines shows script_shows.
-        let one = edited file lines (shows.0, shows.1, shows.2) script_shows in
+        let one = edited file lines (shows.0, shows.1, shows.2, shows.4) script_shows in
         let run = is_run file lines depth one.whole one.skipped one.means in (
           run.0,
           run.1,
@@ -94,7 +97,7 @@ module _ (depth : ℕ) (passes : PassEnds) (script replies : DeviceEnd) (declare
   replied : AreEdited true → ForAmendRun depth passes script replies None
       (λ written. HasText replies (concat written.replies))
   replied edited file lines shows script_shows =
-      let one = edited file lines (shows.0, shows.1, shows.2) script_shows in
+      let one = edited file lines (shows.0, shows.1, shows.2, shows.4) script_shows in
       let run = is_run file lines depth one.whole one.skipped one.means in (
         run.0,
         run.1,
@@ -123,7 +126,8 @@ module _ (o : RunOptions) (passes : PassEnds) (script replies : DeviceEnd) (decl
   -- the file is written, with a mark if one is asked for
   pub ends_with_output : (edits : List (List ℕ)) (out : DeviceEnd) → AreEditedFor true
       → ((file lines : List ℕ) → (passes.declarations.before ≡ Some file) × (passes.outline.before ≡ Some file)
-      × (passes.changes.before ≡ Some file) → script.before ≡ Some lines → HasEditLines file lines o.depth edits)
+      × (passes.changes.before ≡ Some file) × (passes.again.before ≡ Some file) → script.before ≡ Some lines
+      → HasEditLines file lines o.depth edits)
       → replies.has_failed ≡ false → out.has_failed ≡ false
       → IfSome passes.outline.before (λ file. length file ≤ LONG_FILE_LIMIT)
       → (o.is_all_or_nothing ≡ true → refused ≡ 0)
@@ -134,7 +138,7 @@ module _ (o : RunOptions) (passes : PassEnds) (script replies : DeviceEnd) (decl
     replies_ready = ready;
     out_ready = out_ready;
     possible = λ file lines shows script_shows.
-        let one = edited file lines (shows.0, shows.1, shows.2) script_shows in
+        let one = edited file lines (shows.0, shows.1, shows.2, shows.4) script_shows in
         let s : ParseState = one.means.state in
         let all : List (List ℕ) = script_lines lines in (
           s,
@@ -145,19 +149,20 @@ module _ (o : RunOptions) (passes : PassEnds) (script replies : DeviceEnd) (decl
     short = short_file o.depth passes script replies declared first ks cs last refused short;
     none_refused = none_refused;
     run = λ file lines shows script_shows.
-        let one = edited file lines (shows.0, shows.1, shows.2) script_shows in
+        let one = edited file lines (shows.0, shows.1, shows.2, shows.4) script_shows in
         let (text, is, took) = subst (λ coming. IfSome coming (λ f. (text : List ℕ)
         × IsAmendedFor declared first ks cs last (mark_with o.mark edits) f text
         × Appends out.before out.after text)) shows.3 copied in
         let run = written_for file lines text edits one
-        (edits_are file lines (shows.0, shows.1, shows.2) script_shows) is in
+        (edits_are file lines (shows.0, shows.1, shows.2, shows.4) script_shows) is in
         (run.0, run.1, (run.2, subst (Appends out.before out.after) run.3 took, run.4));
   }
 
   -- the end at a fault of the copy
   pub ends_at_copy : (edits : List (List ℕ)) (out : DeviceEnd) (e : CopyError) → AreEditedFor true
       → ((file lines : List ℕ) → (passes.declarations.before ≡ Some file) × (passes.outline.before ≡ Some file)
-      × (passes.changes.before ≡ Some file) → script.before ≡ Some lines → HasEditLines file lines o.depth edits)
+      × (passes.changes.before ≡ Some file) × (passes.again.before ≡ Some file) → script.before ≡ Some lines
+      → HasEditLines file lines o.depth edits)
       → CopyFails SIGNAL_LIMIT LONG_FILE_LIMIT passes.copy.before passes.copy.after passes.copy.has_failed out.before
       out.after out.has_failed e
       → TookFirst SIGNAL_LIMIT (IsAmendedFor declared first ks cs last (mark_with o.mark edits)) passes.copy.before
@@ -165,12 +170,12 @@ module _ (o : RunOptions) (passes : PassEnds) (script replies : DeviceEnd) (decl
       → MarkedRunEnds o passes script replies (Some out) (Err (error_of_copy e))
   unfolding AmendRunEnds
   ends_at_copy edits out (copy_errors.Read e) edited edits_are fails begun =
-      inr (fails, replied o.depth passes script replies declared first ks cs last refused edited)
+      inr (inr (fails, replied o.depth passes script replies declared first ks cs last refused edited))
   ends_at_copy edits out (copy_errors.Write e) edited edits_are fails begun = record {
     some = (fails.1, fails.2);
     run = λ file lines shows script_shows.
-        let one = edited file lines (shows.0, shows.1, shows.2) script_shows in
-        by_fault file lines one (edits_are file lines (shows.0, shows.1, shows.2) script_shows) e fails.2
+        let one = edited file lines (shows.0, shows.1, shows.2, shows.4) script_shows in
+        by_fault file lines one (edits_are file lines (shows.0, shows.1, shows.2, shows.4) script_shows) e fails.2
         (λ has_failed. subst (λ coming. IfSome coming (λ f. (s : ParseState) → Accepts SIGNAL_LIMIT (words_of f) s
         → (text : List ℕ) × IsAmendedFor declared first ks cs last (mark_with o.mark edits) f text
         × TookBefore text out.before out.after out.has_failed e)) shows.3 (begun has_failed) one.means.state
@@ -210,7 +215,7 @@ module _ (o : RunOptions) (passes : PassEnds) (script replies : DeviceEnd) (decl
     asked = asked;
     untouched = untouched;
     run = λ file lines shows script_shows.
-        let one = edited file lines (shows.0, shows.1, shows.2) script_shows in
+        let one = edited file lines (shows.0, shows.1, shows.2, shows.4) script_shows in
         let run = is_run file lines o.depth one.whole one.skipped one.means in (
           run.0,
           run.1,
@@ -291,13 +296,14 @@ module _ (passes : PassEnds) (script : DeviceEnd) where
 -- ---- ends before the copy
 
 module _ (depth : ℕ) (writes : Bool) (passes : PassEnds) (script replies : DeviceEnd)
-    (declared : List VariableDeclaration) (skipped : ℕ) (first : Contents) (ks : List ℕ) (cs : List CutTicks)
-    (takes : Bool) (bytes : List ℕ) where
+    (declared : List VariableDeclaration) (skipped : ℕ) (first : Contents) (streamed : List StreamedLine)
+    (ks : List ℕ) (cs : List CutTicks) (takes : Bool) (bytes : List ℕ) where
   -- what is known where the passes before the copy show one file
   abbrev IsPlan : Type 0
   IsPlan = (file lines : List ℕ) → (passes.declarations.before ≡ Some file)
-      × (passes.outline.before ≡ Some file) × (passes.changes.before ≡ Some file) → script.before ≡ Some lines
-      → IsPlanned file lines depth declared skipped first ks cs takes × (bytes ≡ lines)
+      × (passes.outline.before ≡ Some file) × (passes.changes.before ≡ Some file)
+      × (passes.again.before ≡ Some file) → script.before ≡ Some lines
+      → IsPlanned file lines depth declared skipped first streamed ks cs takes × (bytes ≡ lines)
 
   -- a plan that is refused
   pub plan_ends : (e : AmendRunError) → RefusesPlan writes takes e → IsPlan → IsUntouched replies
@@ -307,7 +313,7 @@ module _ (depth : ℕ) (writes : Bool) (passes : PassEnds) (script replies : Dev
     asked ∙ refuses.0,
     (untouched, kept),
     λ file lines shows script_shows.
-        let plan = (planned file lines (shows.0, shows.1, shows.2) script_shows).0 in
+        let plan = (planned file lines (shows.0, shows.1, shows.2, shows.4) script_shows).0 in
         let s : ParseState = plan.means.state in (
           s,
           plan.means.accepted,
@@ -316,71 +322,94 @@ module _ (depth : ℕ) (writes : Bool) (passes : PassEnds) (script replies : Dev
         ),
   )
 
-  -- in the lines, on the hollow capture
+  -- in the lines
   module _ (planned : IsPlan) where
-    -- the replies of the run are those of the lines on the session
+    -- the replies of the run are those of the lines on the capture of the file, for which they are planned
     replies_of_run : (file lines : List ℕ) → AllShow passes file → script.before ≡ Some lines
-        → (written : RunOutcome) × IsAmendRun file lines depth written
-        × (line_replies skipped 1 (initial_machine first depth) (script_lines bytes) ≡ written.replies)
+        → (written : RunOutcome) × IsAmendRun file lines depth written × (c : Contents) × (silent : ℕ → Bool)
+        × IsPlannedOn file skipped depth (script_lines bytes) streamed (initial_machine first depth) c silent
+        × (line_replies skipped 1 (initial_machine c depth) (script_lines bytes) ≡ written.replies)
     replies_of_run file lines shows script_shows =
-        let both = planned file lines (shows.0, shows.1, shows.2) script_shows in
+        let both = planned file lines (shows.0, shows.1, shows.2, shows.4) script_shows in
         let plan = both.0 in
         let c : Contents = plan.whole in
-        let h : Contents = hollow plan.silent c in
-        let all : List (List ℕ) = script_lines lines in
-        let same = same_replies plan.silent c skipped depth all
-        (run_on_hollow plan.silent c skipped depth all plan.heard) in
         let run = is_run file lines depth c skipped plan.means in (
           run.0,
           run.1,
-          (λ i. line_replies skipped 1 (initial_machine (plan.hollow_is i) depth) (script_lines (both.1 i)))
-              ∙ sym (ap (λ (o : RunOutcome). o.replies) (outcome_is h skipped depth all)) ∙ same.0 ∙ sym run.2,
+          c,
+          plan.silent,
+          record {
+            means = plan.means;
+            session_is = ap (λ (d : Contents). initial_machine d depth) plan.hollow_is;
+            planned = subst (λ (b : List ℕ). ArePlanned c skipped plan.silent 1 (initial_history depth)
+                (script_lines b) streamed) (sym both.1) plan.planned;
+          },
+          (λ i. line_replies skipped 1 (initial_machine c depth) (script_lines (both.1 i)))
+              ∙ sym (ap (λ (o : RunOutcome). o.replies) (outcome_is c skipped depth (script_lines lines)))
+              ∙ sym run.2,
+        )
+
+    -- what stops the lines, on the replies of the run
+    stopped_run : (e : AmendRunError) → StopsInLinesPlanned (FailsOnceMore passes.again.before passes.again.has_failed)
+        passes.again.before skipped (script_lines bytes) streamed (initial_machine first depth) replies.before
+        replies.after e
+        → ForAmendRun depth passes script replies None (λ written.
+        StopsInPlanned (FailsOnceMore passes.again.before passes.again.has_failed) written.replies replies.before
+        replies.after e)
+    stopped_run e stops file lines shows script_shows =
+        let run = replies_of_run file lines shows script_shows in (
+          run.0,
+          run.1,
+          subst (λ (texts : List (List ℕ)). StopsInPlanned (FailsOnceMore passes.again.before passes.again.has_failed)
+              texts replies.before replies.after e) run.5
+              (stops file depth run.2 run.3 shows.4 run.4),
         )
 
     pub lines_end : (e : AmendRunError)
-        → StopsInRun skipped (script_lines bytes) (initial_machine first depth) replies e
+        → EndsInLines passes.again.before passes.again.has_failed skipped depth (script_lines bytes) streamed first
+        replies e
         → EndsBeforeCopy depth writes passes script replies e
     unfolding AmendRunEnds
-    lines_end (errors.Run (run_errors.NoMemory zero)) (inl stops) output asked kept = (stops.1, kept)
-    lines_end (errors.Run (run_errors.NoMemory zero)) (inr stops) output asked kept = absurd (omega (arith, stops.2.0))
-    lines_end (errors.Run (run_errors.NoMemory (suc before))) (inl stops) output asked kept = absurd (cc)
+    lines_end e (inl stops) output asked kept =
+        subst (λ (f : AmendRunError). AmendRunEnds depth passes script replies output (Err f)) (sym stops.0)
+        (stops.1, kept)
+    lines_end (errors.Run (run_errors.NoMemory zero)) (inr stops) output asked kept =
+        absurd (omega (arith, stops.0))
     lines_end (errors.Run (run_errors.NoMemory (suc before))) (inr stops) output asked kept = (
       kept,
       λ file lines shows script_shows.
-          let run = replies_of_run file lines shows script_shows in
+          let run = stopped_run (errors.Run (run_errors.NoMemory (suc before))) stops.1 file lines shows script_shows
+          in
           let one_less : suc before - 1 ≡ before = omega arith in (
             run.0,
             run.1,
-            subst (λ (texts : List (List ℕ)). (before < length texts)
-                × HasText replies (concat (take before texts))) run.2 (
-                  omega (arith, stops.2.1),
-                  subst (λ n. HasText replies (concat (take n
-                      (line_replies skipped 1 (initial_machine first depth) (script_lines bytes))))) one_less stops.2.2,
-                ),
+            (
+              omega (arith, run.2.1),
+              run.2.2,
+              subst (λ n. length (concat (take n run.0.replies)) ≤ run.2.2) one_less run.2.3,
+              run.2.4,
+              run.2.5,
+            ),
           ),
     )
-    lines_end (errors.Run (run_errors.ReplyFault written)) (inl stops) output asked kept = absurd (cc)
-    lines_end (errors.Run (run_errors.ReplyFault written)) (inr stops) output asked kept = (
-      stops.1,
+    lines_end (errors.Run (run_errors.ReplyFault bytes_taken)) (inr stops) output asked kept = (
+      stops.0,
+      kept,
+      stopped_run (errors.Run (run_errors.ReplyFault bytes_taken)) stops.1,
+    )
+    lines_end (errors.Run (run_errors.Capture fault)) (inr stops) output asked kept = inr (inl (
+      stops.0,
       kept,
       λ file lines shows script_shows.
-          let run = replies_of_run file lines shows script_shows in (
-            run.0,
-            run.1,
-            subst (λ (texts : List (List ℕ)). HasPrefix replies written (concat texts)) run.2 stops.2,
-          ),
-    )
-    lines_end (errors.Run (run_errors.Capture fault)) (inl stops) output asked kept = absurd (cc)
-    lines_end (errors.Run (run_errors.Capture fault)) (inr stops) output asked kept = absurd stops.2
-    lines_end (errors.Run run_errors.ScriptTooLarge) (inl stops) output asked kept = absurd (cc)
-    lines_end (errors.Run run_errors.ScriptTooLarge) (inr stops) output asked kept = absurd stops.2
-    lines_end (errors.Run run_errors.ScriptReadFault) (inl stops) output asked kept = absurd (cc)
-    lines_end (errors.Run run_errors.ScriptReadFault) (inr stops) output asked kept = absurd stops.2
-    lines_end (errors.Run (run_errors.Write fault)) (inl stops) output asked kept = absurd (cc)
-    lines_end (errors.Run (run_errors.Write fault)) (inr stops) output asked kept = absurd stops.2
-    lines_end errors.NameOfSkipped stops output asked kept = absurd stops
-    lines_end errors.LineRefused stops output asked kept = absurd stops
-    lines_end errors.CaptureChanged stops output asked kept = absurd stops
+          let run = stopped_run (errors.Run (run_errors.Capture fault)) stops.1 file lines shows script_shows in
+          (run.0, run.1, (run.2.1, run.2.2)),
+    ))
+    lines_end (errors.Run run_errors.ScriptTooLarge) (inr stops) output asked kept = absurd stops.0
+    lines_end (errors.Run run_errors.ScriptReadFault) (inr stops) output asked kept = absurd stops.0
+    lines_end (errors.Run (run_errors.Write fault)) (inr stops) output asked kept = absurd stops.0
+    lines_end errors.NameOfSkipped (inr stops) output asked kept = absurd stops.0
+    lines_end errors.LineRefused (inr stops) output asked kept = absurd stops.0
+    lines_end errors.CaptureChanged (inr stops) output asked kept = absurd stops.0
 
 -- ---- errors passed on
 

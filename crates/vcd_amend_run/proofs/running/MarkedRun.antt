@@ -131,7 +131,7 @@ module _ (file lines : List ℕ) (depth : ℕ) (took : List ℕ → Type 0) (dec
             ∙ ap (λ (f : ℕ → Bool). amended_text a true (initial_state SIGNAL_LIMIT)
             (pieces_after f SIGNAL_LIMIT marked) amended.tail) cut_out
             ∙ amended_text_is_edited file pieces marked amended.tail c edited.skipped depth all is but edited.silent a
-            edited.heard known
+            edited.same known
             ∙ ap (λ (ls : List (List ℕ)). made (mark_with head ls) pieces amended.tail)
             (edits_are c edited.skipped edited.means),
         edited.count,

@@ -3,8 +3,6 @@ use Rattle.std.proofs.Common.{◌≡◌, ℕ, zero, suc, List, [], ◌∷◌, �
 use Rattle.std.proofs.Common.{None}
 use Rattle.std.proofs.Common.{refl, sym, subst, ap, ap₂, ◌∙◌, ◌<◌, Bool, true, false, map, length, arith}
 use Rattle.std.specs.Prelude.{All, IfSome, nat_eq, slice_index_or, count_by, ◌≤◌, ◌+◌}
-use Rattle.std.specs.List.{AllByRecursion, list_any, enumerate_from, flat_map, slice_get, cons_option}
-use Rattle.std.proofs.lemmas.Option.{same_Some}
 use Rattle.std.proofs.lemmas.List.{append_assoc, length-map}
 use Rattle.vcd_core.specs.declared.capture.TheConstants.{SIGNAL_LIMIT}
 use Rattle.vcd_core.specs.Contents.{Contents, SignalContents}
@@ -18,18 +16,14 @@ use Rattle.vcd_amend_run.specs.NewNames.{takes_skipped_name}
 use Rattle.vcd_amend_run.proofs.new_names.Outlines.{takes_skipped_name_in_outlines}
 use Rattle.vcd_amend.specs.DeclaredVariables.{HaveSizesOf}
 use Rattle.vcd_edit.specs.declared.edit.Edit.{Edit}
-use Rattle.vcd_journal.specs.History.{History}
-use Rattle.vcd_journal.specs.History.{replay}
+use Rattle.vcd_journal.specs.History.{History, initial_history, replay}
 use Rattle.vcd_hollow.specs.Origins.{origins}
-use Rattle.vcd_core.specs.SignalOrigins.{RiseWithin}
-use Rattle.vcd_hollow.proofs.shared.Origins.{origins_rise}
 use Rattle.vcd_text.proofs.shared.ResultIsUnique.{one_meaning}
-use Rattle.vcd_script.specs.ScriptCommands.{command_of_line}
 use Rattle.vcd_script.specs.Script.{script_lines}
-use Rattle.vcd_script.specs.Run.{history_at, capture_at}
-use Rattle.vcd_hollow.specs.HollowRun.{last_edits, last_capture, origins_asked, origins_at, origins_of_line}
-use Rattle.vcd_hollow.specs.HollowRun.{waves_asked}
-use Rattle.vcd_hollow.proofs.shared.HollowRuns.{history_is_of_outline, asked_is_of_outline, any_there}
+use Rattle.vcd_hollow.specs.HollowRun.{last_edits, last_capture}
+use Rattle.vcd_hollow.proofs.shared.HollowRuns.{history_is_of_outline}
+use Rattle.vcd_amend_run.specs.inside.StreamedLines.{ArePlanned}
+use Rattle.vcd_amend_run.proofs.streamed_lines.Plans.{planned_is_of_outline}
 use Rattle.vcd_amend_run.specs.declared.dry_running.DryRun.{DryRun}
 use Rattle.vcd_text.specs.declared.reading.TheConstants.{LONG_FILE_LIMIT}
 use Rattle.vcd_amend_run.specs.inside.dry_running.OriginHistory.{ticks_of_cuts}
@@ -47,70 +41,33 @@ outline_twice c = ap (λ (ss : List SignalContents). record c { signals = ss }) 
     twice [] = refl
     twice (s ∷ ss) = ap (λ (rest : List SignalContents). without_changes s ∷ rest) (twice ss)
 
--- the signals that are asked for are heard, if all are that a list says
-all_heard : (silent : ℕ → Bool) (heard : List Bool) (count : ℕ)
-    → ((k : ℕ) → slice_index_or heard k false ≡ true → silent k ≡ false) → (before ks : List ℕ)
-    → ((k : ℕ) → k < count → slice_index_or heard k false ≡ list_any (nat_eq k) (before ++ ks))
-    → AllByRecursion (λ k. k < count) ks → AllByRecursion (λ k. silent k ≡ false) ks
-all_heard silent heard count takes before [] is below = tt
-all_heard silent heard count takes before (k ∷ ks) is below = (
-  takes k (is k below.0 ∙ any_there k before ks),
-  all_heard silent heard count takes (before ++ k ∷ []) ks
-      (λ j less. is j less ∙ ap (list_any (nat_eq j)) (sym (append_assoc before (k ∷ []) ks))) below.1,
-)
-
--- origins are positions in the first capture
-one_below : (floor count : ℕ) (os : List ℕ) (k j : ℕ) → RiseWithin floor count os → slice_get os k ≡ Some j
-    → j < count
-one_below floor count [] k j rise at = absurd (cc)
-one_below floor count (o ∷ os) zero j rise at = subst (λ n. n < count) (same_Some o j at) rise.1
-one_below floor count (o ∷ os) (suc k) j rise at = one_below (suc o) count os k j rise.2 at
-
-one_more_below : (count : ℕ) (o : Option ℕ) (js : List ℕ) → ((j : ℕ) → o ≡ Some j → j < count)
-    → AllByRecursion (λ j. j < count) js → AllByRecursion (λ j. j < count) (cons_option o js)
-one_more_below count None js each below = below
-one_more_below count (Some j) js each below = (each j refl, below)
-
-all_below : (count : ℕ) (os ks : List ℕ) → RiseWithin 0 count os → AllByRecursion (λ j. j < count) (origins_at os ks)
-all_below count os [] rise = tt
-all_below count os (k ∷ ks) rise =
-    one_more_below count (slice_get os k) (origins_at os ks) (λ j at. one_below 0 count os k j rise at)
-    (all_below count os ks rise)
-
-both_below : (P : ℕ → Type 0) (ks js : List ℕ) → AllByRecursion P ks → AllByRecursion P js
-    → AllByRecursion P (ks ++ js)
-both_below P [] js all more = more
-both_below P (k ∷ ks) js all more = (all.0, both_below P ks js all.1 more)
-
-module _ (c : Contents) (skipped depth : ℕ) (all_lines : List (List ℕ)) where
-  asked_below_from : (n : ℕ) (lines : List (List ℕ)) → AllByRecursion (λ j. j < length c.signals)
-      (flat_map (λ p. origins_of_line c skipped depth all_lines p.0 p.1) (enumerate_from n lines))
-  asked_below_from n [] = tt
-  asked_below_from n (line ∷ lines) =
-      both_below (λ j. j < length c.signals) (origins_of_line c skipped depth all_lines n line) _
-      (all_below (length c.signals) (origins (length c.signals) (history_at c skipped depth all_lines n).edits)
-      (waves_asked (command_of_line (capture_at c skipped depth all_lines n) line))
-      (origins_rise (length c.signals) (history_at c skipped depth all_lines n).edits))
-      (asked_below_from (n + 1) lines)
-
 -- what a dry run on the outline finds holds of the whole capture
 dry_run_of_whole : (c o : Contents) (skipped depth : ℕ) (lines : List (List ℕ)) (dry : DryRun) → o ≡ outline c
     → IsDryRun o skipped depth lines dry → IsDryRun c skipped depth lines dry
 dry_run_of_whole c o skipped depth lines dry is found =
     let same : outline o ≡ outline c = ap outline is ∙ outline_twice c in
-    let asked = asked_is_of_outline o c skipped depth lines same in
     let edits : last_edits o skipped depth lines ≡ last_edits c skipped depth lines =
     ap (λ (h : History). h.edits) (history_is_of_outline o c skipped depth lines (length lines) same) in
     let count : length o.signals ≡ length c.signals =
     ap (λ (d : Contents). length d.signals) is ∙ length-map c.signals without_changes in
     record {
-      heard = λ k less. found.heard k (omega (arith, count, less)) ∙ ap (list_any (nat_eq k)) asked;
+      planned = λ silent takes.
+          planned_is_of_outline o c skipped silent 1 (initial_history depth) lines dry.streamed.items same
+          (found.planned silent takes);
       origins_are = found.origins_are ∙ ap₂ origins count edits;
       cuts_are = found.cuts_are ∙ ap ticks_of_cuts edits;
       last_is = found.last_is
           ∙ ap (λ (es : List Edit). outline (replay o es)) edits
           ∙ replay_keeps_outlines o c (last_edits c skipped depth lines) same;
     }
+
+-- the lines that it finds are planned for a capture of that outline, of which all is heard
+pub planned_whole : (o first : Contents) (skipped depth : ℕ) (lines : List (List ℕ)) (dry : DryRun)
+    → IsDryRun o skipped depth lines dry → outline o ≡ outline first
+    → ArePlanned first skipped (λ k. false) 1 (initial_history depth) lines dry.streamed.items
+planned_whole o first skipped depth lines dry found same =
+    planned_is_of_outline o first skipped (λ k. false) 1 (initial_history depth) lines dry.streamed.items same
+    (found.planned (λ k. false) (λ k heard. refl))
 
 -- the cuts that it finds take ticks out in their order
 pub ordered_cuts : (o : Contents) (skipped depth : ℕ) (lines : List (List ℕ)) (dry : DryRun)
@@ -206,7 +163,7 @@ module _ (file lines script : List ℕ) (depth : ℕ) (declared : List VariableD
       → HasHollow SIGNAL_LIMIT file kept dry.heard.items first
       → IsDryRun o skipped depth (script_lines lines) dry
       → takes ≡ takes_skipped_name declared kept.signals dry.origins.items (contents dry.last).signals
-      → IsPlanned file lines depth declared skipped first dry.origins.items dry.cuts.items takes
+      → IsPlanned file lines depth declared skipped first dry.streamed.items dry.origins.items dry.cuts.items takes
   known variables outlined same hollowed found names =
       let c : Contents = outlined.whole in
       let one : hollowed.whole ≡ c = (one_meaning SIGNAL_LIMIT file hollowed.whole c hollowed.skipped skipped
@@ -220,9 +177,7 @@ module _ (file lines script : List ℕ) (depth : ℕ) (declared : List VariableD
         whole = c;
         silent = heard.0;
         means = outlined.means;
-        heard = all_heard heard.0 dry.heard.items (length c.signals) heard.1 []
-            (origins_asked c skipped depth (script_lines lines)) dried.heard
-            (asked_below_from c skipped depth (script_lines lines) 0 (script_lines lines));
+        planned = dried.planned heard.0 heard.1;
         hollow_is = heard.2;
         origins_are = dried.origins_are;
         cuts_are = dried.cuts_are;
@@ -241,7 +196,8 @@ module _ (file lines script : List ℕ) (depth : ℕ) (declared : List VariableD
       → takes ≡ takes_skipped_name declared kept.signals dry.origins.items (contents dry.last).signals
       → IfSome coming2 (λ f. (length f ≤ LONG_FILE_LIMIT) × HasHollow SIGNAL_LIMIT f kept dry.heard.items first)
       → (coming0 ≡ Some file) × (coming1 ≡ Some file) × (coming2 ≡ Some file) → script_coming ≡ Some lines
-      → IsPlanned file lines depth declared skipped first dry.origins.items dry.cuts.items takes × (script ≡ lines)
+      → IsPlanned file lines depth declared skipped first dry.streamed.items dry.origins.items dry.cuts.items takes
+      × (script ≡ lines)
   is_planned coming0 coming1 coming2 script_coming variables outlined read found same names hollowed shows script_shows
       =
       let is : script ≡ lines = subst (λ coming. IfSome coming (λ s. script ≡ s)) script_shows read in (

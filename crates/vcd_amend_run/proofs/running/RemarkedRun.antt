@@ -14,13 +14,15 @@ use Rattle.vcd_text.proofs.shared.ResultIsUnique.{one_meaning}
 use Rattle.vcd_edit.specs.declared.edit.Edit.{Edit}
 use Rattle.vcd_edit.specs.declared.edit.Edit.TheVariants.{Cut}
 use Rattle.vcd_hollow.specs.Cuts.{cuts}
-use Rattle.vcd_hollow.specs.Hollow.{hollow}
+use Rattle.vcd_journal.specs.History.{initial_history}
 use Rattle.vcd_journal.specs.Machine.{initial_machine}
+use Rattle.vcd_amend_run.specs.declared.streamed_line.StreamedLine.{StreamedLine}
+use Rattle.vcd_amend_run.specs.inside.PlannedLines.{IsPlannedOn}
+use Rattle.vcd_amend_run.specs.inside.StreamedLines.{ArePlanned}
 use Rattle.vcd_hollow.specs.HollowRun.{last_edits}
 use Rattle.vcd_remarks.specs.RemarksOfRun.{remarks_of_run}
 use Rattle.vcd_script.specs.Script.{script_lines}
 use Rattle.vcd_remarks.specs.SessionRemarks.{session_remarks}
-use Rattle.vcd_remarks.proofs.shared.RemarksOnHollow.{remarks_on_hollow}
 use Rattle.vcd_remarks.proofs.shared.SessionRemarks.{session_remarks_are_run}
 use Rattle.vcd_amend.specs.declared.cut_ticks.CutTicks.{CutTicks}
 use Rattle.vcd_amend.specs.Amendment.{Amendment}
@@ -43,36 +45,36 @@ unfolding TakesLineRemarks
 none_taken depth passes script taken failed file lines shows script_shows c skipped means =
     (0, (omega arith, Appends-nil taken))
 
--- the remarks on the lines, with the changes that these ask for alone
-remarks_are : (file lines bytes : List ℕ) (depth : ℕ) (declared : List VariableDeclaration) (skipped : ℕ)
-    (first : Contents) (ks : List ℕ) (cs : List CutTicks) (takes : Bool)
-    (planned : IsPlanned file lines depth declared skipped first ks cs takes) → bytes ≡ lines
-    → session_remarks 1 (initial_machine first depth) (script_lines bytes)
-    ≡ remarks_of_run planned.whole skipped depth (script_lines lines)
-remarks_are file lines bytes depth declared skipped first ks cs takes planned same =
-    let all : List (List ℕ) = script_lines lines in
-    (λ i. session_remarks 1 (initial_machine (planned.hollow_is i) depth) (script_lines (same i)))
-    ∙ session_remarks_are_run (hollow planned.silent planned.whole) skipped depth all
-    ∙ remarks_on_hollow planned.silent planned.whole skipped depth all planned.heard
-
 pub remarks_of_plan : (depth : ℕ) (passes : PassEnds) (script remarks : DeviceEnd)
-    (declared : List VariableDeclaration) (skipped : ℕ) (first : Contents) (ks : List ℕ) (cs : List CutTicks)
-    (takes : Bool) (bytes : List ℕ)
+    (declared : List VariableDeclaration) (skipped : ℕ) (first : Contents) (streamed : List StreamedLine)
+    (ks : List ℕ) (cs : List CutTicks) (takes : Bool) (bytes : List ℕ)
     → ((file lines : List ℕ) → (passes.declarations.before ≡ Some file) × (passes.outline.before ≡ Some file)
-    × (passes.changes.before ≡ Some file) → script.before ≡ Some lines
-    → IsPlanned file lines depth declared skipped first ks cs takes × (bytes ≡ lines))
-    → (count : ℕ) × HasPrefix remarks count (session_remarks 1 (initial_machine first depth) (script_lines bytes))
+    × (passes.changes.before ≡ Some file) × (passes.again.before ≡ Some file) → script.before ≡ Some lines
+    → IsPlanned file lines depth declared skipped first streamed ks cs takes × (bytes ≡ lines))
+    → ((file : List ℕ) (c : Contents) (silent : ℕ → Bool) → passes.again.before ≡ Some file
+    → IsPlannedOn file skipped depth (script_lines bytes) streamed (initial_machine first depth) c silent
+    → (count : ℕ) × HasPrefix remarks count (session_remarks 1 (initial_machine c depth) (script_lines bytes)))
     → TakesLineRemarks depth passes script remarks
 unfolding TakesLineRemarks
-remarks_of_plan depth passes script remarks declared skipped first ks cs takes bytes planned took file lines shows
-    script_shows c count means =
-    let plan = planned file lines (shows.0, shows.1, shows.2) script_shows in
-    let one = one_meaning SIGNAL_LIMIT file plan.0.whole c skipped count plan.0.means means in
-    let all : session_remarks 1 (initial_machine first depth) (script_lines bytes)
+remarks_of_plan depth passes script remarks declared skipped first streamed ks cs takes bytes planned took file lines
+    shows script_shows c count means =
+    let both = planned file lines (shows.0, shows.1, shows.2, shows.4) script_shows in
+    let plan = both.0 in
+    let one = one_meaning SIGNAL_LIMIT file plan.whole c skipped count plan.means means in
+    let all : session_remarks 1 (initial_machine plan.whole depth) (script_lines bytes)
     ≡ remarks_of_run c count depth (script_lines lines) =
-    remarks_are file lines bytes depth declared skipped first ks cs takes plan.0 plan.1
-    ∙ (λ i. remarks_of_run (one.0 i) (one.1 i) depth (script_lines lines)) in
-    subst (λ (text : List ℕ). (n : ℕ) × HasPrefix remarks n text) all took
+    session_remarks_are_run plan.whole skipped depth (script_lines bytes)
+    ∙ (λ i. remarks_of_run (one.0 i) (one.1 i) depth (script_lines (both.1 i))) in
+    let on : IsPlannedOn file skipped depth (script_lines bytes) streamed (initial_machine first depth) plan.whole
+    plan.silent =
+    record {
+      means = plan.means;
+      session_is = ap (λ (d : Contents). initial_machine d depth) plan.hollow_is;
+      planned = subst (λ (b : List ℕ). ArePlanned plan.whole skipped plan.silent 1 (initial_history depth)
+          (script_lines b) streamed) (sym both.1) plan.planned;
+    } in
+    subst (λ (text : List ℕ). (n : ℕ) × HasPrefix remarks n text) all
+    (took file plan.whole plan.silent shows.4 on)
 
 -- ---- the output
 
@@ -126,7 +128,7 @@ module _ (file lines : List ℕ) (depth : ℕ) (writes : Bool) (took : List ℕ 
       let known = known_for_run file lines depth writes took declared first ks cs last refused a pieces pieces tail
       edited is_for here own in
       let amendment : a ≡ amendment_of_run whole edited.skipped depth all pieces =
-      known_is_of_run file pieces pieces tail whole edited.skipped depth all here own edited.silent a edited.heard
+      known_is_of_run file pieces pieces tail whole edited.skipped depth all here own edited.silent a edited.same
       known in
       let variables : declared ≡ (state_of_pieces SIGNAL_LIMIT pieces).declared =
       edited.variables (state_of_pieces SIGNAL_LIMIT pieces)
@@ -145,7 +147,7 @@ pub with_output_remarks : (depth : ℕ) (earlier later : PassEnds) (script : Dev
     (record { before = before; after = between; has_failed = failed_between })
     → ((file : List ℕ) → AllShow later file → AllShow earlier file)
     → ((file lines : List ℕ) → (earlier.declarations.before ≡ Some file) × (earlier.outline.before ≡ Some file)
-    × (earlier.changes.before ≡ Some file) → script.before ≡ Some lines
+    × (earlier.changes.before ≡ Some file) × (earlier.again.before ≡ Some file) → script.before ≡ Some lines
     → IsEdited file lines depth writes took declared first ks cs last refused)
     → TakesOutputRemarks declared first ks cs last
     (record { before = between; after = after; has_failed = failed })
@@ -170,7 +172,7 @@ with_output_remarks depth earlier later script before between after failed_betwe
     elim output [
       | inl none ↦ joined 0 (omega arith) none
       | inr given ↦
-          let known = edited file lines (seen.0, seen.1, seen.2) script_shows in
+          let known = edited file lines (seen.0, seen.1, seen.2, seen.4) script_shows in
           let same : output_remarks given.0 declared (not (length cs == 0)) ≡ more =
           output_remarks_are file lines depth writes took declared first ks cs last refused known given.0 c skipped
           pieces tail given.1 is in

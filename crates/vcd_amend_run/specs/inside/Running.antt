@@ -1,8 +1,8 @@
 -- A run whose replies are written, and what is then known for the copy.
 use Rattle.std.specs.Prelude.{◌≡◌, ◌⊎◌, ◌<◌, ◌==◌, ℕ, Bool, true, false, not, List, [], length}
 use Rattle.std.specs.Prelude.{Option, Some, IfSome, Err, is_some}
-use Rattle.std.specs.Prelude.{nat_eq, slice_index_or}
-use Rattle.std.specs.List.{concat, list_any}
+use Rattle.std.specs.Prelude.{slice_index_or}
+use Rattle.std.specs.List.{concat}
 use Rattle.vcd_core.specs.declared.capture.TheConstants.{SIGNAL_LIMIT}
 use Rattle.vcd_core.specs.Contents.{Contents}
 use Rattle.vcd_core.specs.CaptureContents.{contents}
@@ -11,7 +11,8 @@ use Rattle.vcd_core.specs.Devices.{DeviceEnd, IsUntouched, HasPrefix, HasText}
 use Rattle.vcd_text.specs.Words.{words_of}
 use Rattle.vcd_text.specs.Grammar.{ParseState, VariableDeclaration, Accepts}
 use Rattle.vcd_text.specs.Meaning.{FileMeans}
-use Rattle.vcd_journal.specs.Machine.{Machine}
+use Rattle.vcd_journal.specs.History.{initial_history}
+use Rattle.vcd_journal.specs.Machine.{Machine, initial_machine}
 use Rattle.vcd_hollow.specs.Origins.{origins}
 use Rattle.vcd_core.specs.SignalOrigins.{RiseWithin, ComeFrom}
 use Rattle.vcd_hollow.specs.Hollow.{hollow}
@@ -19,13 +20,12 @@ use Rattle.vcd_script.specs.declared.running.run_error.RunError.TheVariants as r
 use Rattle.vcd_script.specs.Script.{script_lines}
 use Rattle.vcd_script.specs.Run.{outcome}
 use Rattle.vcd_remarks.specs.RemarksOfRun.{remarks_of_run}
-use Rattle.vcd_script.specs.LineRunEnds.{HasFailedAt, StopsInLines}
-use Rattle.vcd_hollow.specs.HollowRun.{last_edits, last_capture, origins_asked, AreHeard}
+use Rattle.vcd_hollow.specs.HollowRun.{last_edits, last_capture, IsSameRun}
 use Rattle.vcd_amend.specs.declared.cut_ticks.CutTicks.{CutTicks}
 use Rattle.vcd_amend_run.specs.inside.dry_running.OriginHistory.{ticks_of_cuts}
 use Rattle.vcd_amend_run.specs.NewNames.{takes_skipped_name}
 use Rattle.vcd_amend_run.specs.EditsInForce.{lines_in_force}
-use Rattle.vcd_amend_run.specs.AmendRunEnds.{PassEnds, AllShow, AmendRunEnds}
+use Rattle.vcd_amend_run.specs.AmendRunEnds.{PassEnds, AllShow, AmendRunEnds, FailsOnceMore}
 use Rattle.vcd_amend.specs.Amendment.{Amendment}
 use Rattle.vcd_amend.specs.KnownSignals.{IsAmendmentFor}
 use Rattle.vcd_amend.specs.RetimedCopy.{IsAmendedAfterCuts, is_cut_by}
@@ -40,11 +40,17 @@ use Rattle.vcd_copy.specs.declared.copying.copy_error.CopyError.TheVariants as c
 use Rattle.vcd_amend_run.specs.declared.hearing.HearError.{HearError}
 use Rattle.vcd_amend_run.specs.declared.hearing.HearError.TheVariants as hear_errors
 use Rattle.vcd_amend_run.specs.declared.dry_running.DryRun.{DryRun}
+use Rattle.vcd_amend_run.specs.declared.streamed_line.StreamedLine.{StreamedLine}
+use Rattle.vcd_amend_run.specs.inside.StreamedLines.{ArePlanned}
+use Rattle.vcd_amend_run.specs.inside.PlannedLines.{EndsInPlanned, StopsInLinesPlanned}
+use Rattle.vcd_amend_run.specs.inside.PlannedLines.{RunsPlannedLines}
 
 -- the passes before the copy show this file
-abbrev pub ShowUpTo : {R : Type 0} → (coming : R → Option (List ℕ)) → Passes R → List ℕ → Type 0
-ShowUpTo coming p file = (coming p.declarations ≡ Some file) × (coming p.outline ≡ Some file)
-    × (coming p.changes ≡ Some file)
+abbrev pub ShowUpTo : {R O : Type 0} → (coming : R → Option (List ℕ))
+    → (whole : O → Option (List ℕ)) → Passes R O → List ℕ → Type 0
+ShowUpTo coming whole p file = (coming p.declarations ≡ Some file)
+    × (coming p.outline ≡ Some file) × (coming p.changes ≡ Some file)
+    × (whole p.again ≡ Some file)
 
 -- the error of a file in which the changes that lines ask for were not found
 abbrev pub error_of_hearing : HearError → AmendRunError
@@ -71,8 +77,9 @@ pub record IsLaterCapture (first : Contents) (ks : List ℕ) (last : Contents) :
 -- what a dry run of lines finds on an outline
 pub record IsDryRun (c : Contents) (skipped depth : ℕ) (lines : List (List ℕ)) (dry : DryRun) :
     Type 0 where
-  pub heard : (k : ℕ) → k < length c.signals → slice_index_or dry.heard.items k false
-      ≡ list_any (nat_eq k) (origins_asked c skipped depth lines)
+  pub planned : (silent : ℕ → Bool)
+      → ((k : ℕ) → slice_index_or dry.heard.items k false ≡ true → silent k ≡ false)
+      → ArePlanned c skipped silent 1 (initial_history depth) lines dry.streamed.items
   pub origins_are : dry.origins.items ≡ origins (length c.signals)
       (last_edits c skipped depth lines)
   pub cuts_are : dry.cuts.items ≡ ticks_of_cuts (last_edits c skipped depth lines)
@@ -81,12 +88,13 @@ pub record IsDryRun (c : Contents) (skipped depth : ℕ) (lines : List (List ℕ
 -- before the first reply it is known of this file and these lines: the variables and what the
 -- passes so far found
 pub record IsPlanned (file lines : List ℕ) (depth : ℕ) (declared : List VariableDeclaration)
-    (skipped : ℕ) (first : Contents) (ks : List ℕ) (cuts : List CutTicks) (takes : Bool) :
-    Type 0 where
+    (skipped : ℕ) (first : Contents) (streamed : List StreamedLine) (ks : List ℕ)
+    (cuts : List CutTicks) (takes : Bool) : Type 0 where
   pub whole : Contents
   pub silent : ℕ → Bool
   pub means : FileMeans SIGNAL_LIMIT file whole skipped
-  pub heard : AreHeard silent (origins_asked whole skipped depth (script_lines lines))
+  pub planned : ArePlanned whole skipped silent 1 (initial_history depth) (script_lines lines)
+      streamed
   pub hollow_is : first ≡ hollow silent whole
   pub origins_are : ks ≡ origins (length whole.signals)
       (last_edits whole skipped depth (script_lines lines))
@@ -108,7 +116,7 @@ pub record IsEdited (file lines : List ℕ) (depth : ℕ) (writes : Bool) (took 
   pub skipped : ℕ
   pub silent : ℕ → Bool
   pub means : FileMeans SIGNAL_LIMIT file whole skipped
-  pub heard : AreHeard silent (origins_asked whole skipped depth (script_lines lines))
+  pub same : IsSameRun silent whole skipped depth (script_lines lines)
   pub hollow_is : first ≡ hollow silent whole
   pub last_is : last ≡ last_capture (hollow silent whole) skipped depth (script_lines lines)
   pub origins_are : ks ≡ origins (length whole.signals)
@@ -142,14 +150,23 @@ EndsBeforeReplies passes script e =
     (depth : ℕ) (writes : Bool) (replies : DeviceEnd) → IsUntouched replies
     → EndsBeforeCopy depth writes passes script replies e
 
--- it ends in the lines, on a machine
-abbrev pub StopsInRun : (skipped : ℕ) → List (List ℕ) → Machine → (replies : DeviceEnd) →
-    AmendRunError → Type 0
-StopsInRun skipped lines old replies (errors.Run e) =
-    ((e ≡ run_errors.NoMemory 0) × IsUntouched replies)
-    ⊎ ((is_flushed : Bool) × HasFailedAt replies.has_failed is_flushed e
-    × StopsInLines skipped lines old replies.before replies.after e)
-StopsInRun skipped lines old replies e = ⊥
+-- the lines of a plan, with the capture of its session; `shown` is the file as it is opened once
+-- more, which has failed or not
+module _ (shown : Option (List ℕ)) (again_failed : Bool) (skipped depth : ℕ) (lines : List (List ℕ))
+    (streamed : List StreamedLine) (first : Contents) where
+  -- they were run, and their replies written
+  abbrev pub RunsPlanned : (new : Machine) → (refused : ℕ) → (before after : Option (List ℕ))
+      → Type 0
+  RunsPlanned new refused before after =
+      RunsPlannedLines shown skipped lines streamed (initial_machine first depth) new refused
+      before after
+
+  -- it ends in them
+  abbrev pub EndsInLines : (replies : DeviceEnd) → AmendRunError → Type 0
+  EndsInLines replies e = ((e ≡ errors.Run (run_errors.NoMemory 0)) × IsUntouched replies)
+      ⊎ (EndsInPlanned (FailsOnceMore shown again_failed) replies.has_failed e
+      × StopsInLinesPlanned (FailsOnceMore shown again_failed) shown skipped lines streamed
+      (initial_machine first depth) replies.before replies.after e)
 
 -- ---- remarks
 

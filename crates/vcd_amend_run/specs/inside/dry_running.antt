@@ -1,3 +1,5 @@
 -- Definitions that `dry_running` and its proofs cite.
 pub mod HeardLines
+pub mod HistoryNotes
+pub mod LinePlan
 pub mod OriginHistory

@@ -1,9 +1,8 @@
 //! What a dry run remembers of the edits.
 
-ghost use Rattle.std.specs.Prelude.{◌≡◌, reverse, IfOk, OnOk};
-ghost use Rattle.std.specs.List.{filter_map};
-ghost use Rattle.vcd_amend_run.specs.inside.dry_running.HeardLines as spec;
-ghost use Rattle.vcd_amend_run.specs.inside.dry_running.OriginHistory.{cut_of_note};
+ghost use Rattle.std.specs.Prelude.{◌≡◌, IfOk, OnOk};
+ghost use Rattle.vcd_amend_run.specs.inside.dry_running.HistoryNotes as spec;
+ghost use Rattle.vcd_amend_run.specs.inside.dry_running.OriginHistory.{cuts_noted};
 
 use super::line_history::LineHistory;
 use super::origin_history::OriginHistory;
@@ -21,7 +20,7 @@ pub struct EditHistory {
 }
 
 impl Model for EditHistory {
-    ghost use Rattle.vcd_amend_run.specs.inside.dry_running.HeardLines.{HistoryNotes};
+    ghost use Rattle.vcd_amend_run.specs.inside.dry_running.HistoryNotes.{HistoryNotes};
 
     ghost Value = { HistoryNotes };
 
@@ -48,8 +47,7 @@ impl EditHistory {
 
     /// The cuts in force, the oldest first.
     pub fn cuts(&self, alloc: Global) -> Result<Vec<CutTicks>, NoMemory>
-        ensures { IfOk result (λ cuts. cuts.items
-            ≡ filter_map cut_of_note (reverse self.now.notes.in_force)) }
+        ensures { IfOk result (λ cuts. cuts.items ≡ cuts_noted self.now.notes) }
     {
         self.origins.cuts(alloc)
     }

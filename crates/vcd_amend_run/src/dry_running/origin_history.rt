@@ -1,6 +1,6 @@
 //! The origins of the signals of a capture under edit.
 
-ghost use Rattle.std.specs.Prelude.{◌≡◌, ◌∷◌, [], reverse, IfOk, OnOk};
+ghost use Rattle.std.specs.Prelude.{◌≡◌, IfOk, OnOk};
 ghost use Rattle.std.specs.List.{filter_map, range_with_len, slice_get};
 ghost use Rattle.vcd_amend_run.specs.inside.dry_running.OriginHistory as spec;
 ghost use Rattle.vcd_journal.specs.declared.step.Step.TheVariants as steps;
@@ -75,8 +75,7 @@ impl OriginHistory {
 
     /// The cuts in force, the oldest first.
     pub fn cuts(&self, alloc: Global) -> Result<Vec<CutTicks>, NoMemory>
-        ensures { IfOk result (λ cuts. cuts.items
-            ≡ filter_map spec.cut_of_note (reverse self.now.in_force)) }
+        ensures { IfOk result (λ cuts. cuts.items ≡ spec.cuts_noted self.now) }
     {
         cuts_of_notes(alloc, self.in_force.as_slice())
     }

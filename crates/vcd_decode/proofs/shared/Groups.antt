@@ -49,7 +49,7 @@ groups_short n xs some short =
     ∙ ap (λ k. take n (drop k xs) ∷ []) {x = 0 * n} {y = 0} (omega arith) ∙ ap (λ ys. ys ∷ []) (take_all n xs short)
 
 -- numbers one further on
-pub map_shifted : {X : Type 0} (f g : ℕ → X) (a n : ℕ) → ((i : ℕ) → f (i + 1) ≡ g i)
+map_shifted : {X : Type 0} (f g : ℕ → X) (a n : ℕ) → ((i : ℕ) → f (i + 1) ≡ g i)
     → map f (range_with_len (a + 1) n) ≡ map g (range_with_len a n)
 map_shifted f g a zero same = refl
 map_shifted f g a (suc n) same = λ i. same a i ∷ map_shifted f g (a + 1) n same i

@@ -7,6 +7,7 @@ ghost use Rattle.vcd_decode.specs.I2c.{i2c_annotations};
 ghost use Rattle.vcd_decode.specs.inside.i2c_bus.BusWalk as walk;
 
 use crate::annotation::Annotation;
+use crate::edge_decoder::{EdgeDecoder, decode_edges};
 use crate::i2c_bus::events::{BusEvent, BusLevels, bus_event};
 use crate::i2c_bus::transfer::{Transfer, take_event};
 use std::alloc::Global;
@@ -39,13 +40,8 @@ pub fn i2c<'a>(
     ensures { IfOk result (λ found.
         found.items ≡ i2c_annotations (line_of scl.now) (line_of sda.now) end) }
 {
-    let mut found = Vec::new(alloc);
-    let mut decoder = I2cDecoder::new();
-    for edge in BitEdges::new(Some(scl), Some(sda), None, None) {
-        decoder.take(&mut found, edge)?;
-    }
-    decoder.finish();
-    Ok(found)
+    let edges = BitEdges::new(Some(scl), Some(sda), None, None);
+    decode_edges(alloc, I2cDecoder::new(), edges)
 }
 
 /// What [`i2c`] does at each edge, for lines whose edges come one at a time. It holds the bits of
@@ -83,25 +79,24 @@ impl I2cDecoder {
     {
         I2cDecoder { transfer: None }
     }
+}
 
-    /// Takes the next edge, and appends the annotations that it completes.
-    pub fn take(&mut self, found: &mut Vec<Annotation>, edge: BitEdge) -> Result<(), NoMemory>
-        ensures { OnOk result ((more : List BitEdge)
-            → found.new.items ++ walk.i2c_annotations_left self.new more
-            ≡ found.old.items ++ walk.i2c_annotations_left self.old (edge ∷ more)) }
-    {
-        if let Some(event) = edge_event(edge) {
+impl EdgeDecoder for I2cDecoder {
+    ghost use Rattle.vcd_decode.specs.inside.i2c_bus.BusWalk.{i2c_annotations_left};
+
+    ghost annotations_left = { i2c_annotations_left };
+
+    fn take(&mut self, found: &mut Vec<Annotation>, edge: &BitEdge) -> Result<(), NoMemory> {
+        if let Some(event) = edge_event(*edge) {
             self.transfer = take_event(found, self.transfer, event)?;
         }
         Ok(())
     }
 
-    /// Ends the decoding: bits that the end of the capture cuts off give no annotation.
+    /// Appends nothing: bits that the end of the capture cuts off give no annotation.
     #[tactic(auto, unfolding(crate::specs::inside::i2c_bus::BusWalk::walk_annotations))]
-    pub fn finish(self)
-        ensures { walk.i2c_annotations_left self [] ≡ [] }
-    {
-        let _transfer = self.transfer;
+    fn finish(&mut self, _found: &mut Vec<Annotation>) -> Result<(), NoMemory> {
+        Ok(())
     }
 }
 

@@ -1,6 +1,6 @@
 -- The changes that a `force` takes out: those found so far, and those among the changes that are left.
 use Rattle.std.proofs.Common.{◌≡◌, ℕ, ◌+◌, ◌<◌, ◌≤◌, Bool, true, false, if◌then◌else◌, List, ◌∷◌, length, drop}
-use Rattle.std.proofs.Common.{get_or, refl, ap, sym, ◌∙◌}
+use Rattle.std.proofs.Common.{get_or, refl, ap, sym, ◌∙◌, arith, []}
 use Rattle.std.proofs.lemmas.List.{drop_all}
 use Rattle.vcd_core.specs.declared.bit.Bit.{Bit}
 use Rattle.vcd_core.specs.declared.wave.Change.{Change}
@@ -35,3 +35,17 @@ module _ (from to : ℕ) (value before : List Bit) (cs : List Change) (i : ℕ) 
       → with_ticks found (ticks_taken_out from to value before (drop i cs)) ≡ found
   unfolding ticks_taken_out with_ticks
   none_taken_out past = ap (λ l. with_ticks found (ticks_taken_out from to value before l)) (drop_all i cs past)
+
+-- at most one for each change
+pub few_taken_out : (from to : ℕ) (value before : List Bit) (cs : List Change)
+    → length (ticks_taken_out from to value before cs) ≤ length cs
+unfolding ticks_taken_out
+few_taken_out from to value before [] = omega arith
+few_taken_out from to value before (c ∷ cs) =
+    by_test (few_taken_out from to value c.value cs) (is_change_taken_out from to value before c)
+  where
+    by_test : length (ticks_taken_out from to value c.value cs) ≤ length cs → (b : Bool)
+        → length (if b then c.tick ∷ ticks_taken_out from to value c.value cs
+        else ticks_taken_out from to value c.value cs) ≤ length (c ∷ cs)
+    by_test later true = omega (arith, later)
+    by_test later false = omega (arith, later)

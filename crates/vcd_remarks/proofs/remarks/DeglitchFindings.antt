@@ -1,8 +1,11 @@
 -- What is found by a `deglitch`, run by run, is what is found in all runs.
-use Rattle.std.proofs.Common.{◌≡◌, ℕ, ◌-◌, ◌==◌, ◌&&◌, nat_lt, nat_le, not, Bool, true, false, cond}
-use Rattle.std.proofs.Common.{if◌then◌else◌, Some, None, List, [], ◌∷◌, map, refl, ap, sym, ◌∙◌}
+use Rattle.std.proofs.Common.{◌≡◌, ℕ, suc, ◌-◌, ◌^◌, ◌<◌, ◌≤◌, ◌==◌, ◌&&◌, nat_lt, nat_le, not, Bool, true, false, cond}
+use Rattle.std.proofs.Common.{if◌then◌else◌, Some, None, List, [], ◌∷◌, length, map, refl, ap, sym}
+use Rattle.std.proofs.Common.{◌∙◌, arith}
 use Rattle.std.specs.List.{filter}
 use Rattle.std.proofs.lemmas.Bool.{and_parts, eqb-true}
+use Rattle.std.proofs.lemmas.List.{length-map}
+use Rattle.std.proofs.lemmas.List.Sums.{length-filter, count_by-le-length}
 use Rattle.vcd_core.specs.declared.bit.Bit.{Bit}
 use Rattle.vcd_core.specs.declared.wave.Change.{Change}
 use Rattle.vcd_core.specs.Value.{all_x}
@@ -138,33 +141,78 @@ module _ (ticks end : ℕ) where
             short_runs = short_first found.short_runs r (kept rs) i;
           })
 
+  -- ---- how many there are
+
+  gaps_few : (rs : List ValueRun) → length (gaps rs) ≤ length rs
+  unfolding gaps
+  gaps_few [] = omega arith
+  gaps_few (r ∷ []) = omega arith
+  gaps_few (r ∷ q ∷ rs) = omega (arith, gaps_few (q ∷ rs))
+
+  edges_few : (rs : List ValueRun) → length (delayed_edges rs) ≤ length rs
+  unfolding delayed_edges
+  edges_few [] = omega arith
+  edges_few (r ∷ []) = omega arith
+  edges_few (r ∷ q ∷ rs) = omega (arith, edges_few (q ∷ rs))
+
+  passing_few : {A : Type 0} (p : A → Bool) (xs : List A) → length (filter p xs) ≤ length xs
+  passing_few p xs = omega (arith, length-filter p xs, count_by-le-length p xs)
+
+  spans_few : (p : ValueRun → Bool) (rs : List ValueRun)
+      → length (map (λ r. span r.first (ticks_of_run r)) (filter p rs)) ≤ length rs
+  spans_few p rs = omega (arith, passing_few p rs, length-map (filter p rs) (λ r. span r.first (ticks_of_run r)))
+
+  runs_few : (cs : List Change) → length (runs_begun end cs) ≡ length cs
+  unfolding runs_begun
+  runs_few [] = refl
+  runs_few (c ∷ cs) = ap suc (runs_few cs)
+
   -- with the first run
-  pub findings_from : (value : List Bit) (cs : List Change) → findings_of (found_from ticks end value cs)
+  pub findings_from : (value : List Bit) (cs : List Change) → length cs < 2 ^ 63
+      → findings_of (found_from ticks end value cs)
       ≡ deglitch_findings ticks end (first_run end value cs ∷ runs_begun end cs)
-  findings_from value cs =
+  findings_from value cs fits =
       let first : ValueRun = first_run end value cs in
       let rs : List ValueRun = runs_begun end cs in
+      let few : length (first ∷ kept rs) < 2 ^ 64 =
+      omega (arith, fits, runs_few cs, passing_few (λ r. not (is_pulse ticks end r)) rs) in
       ap findings_of (runs_in_turn (tick_before end cs) value (found_first ticks first) rs
       ∙ (λ i. record {
-        pulses = spans_in_turn (pulse_spans rs) i;
-        stretches = spans_in_turn (stretches (first ∷ kept rs)) i;
-        late_edges = spans_in_turn (late (first ∷ kept rs)) i;
-        short_runs = (short_first (found_spans []) first (kept rs) ∙ spans_in_turn (short_spans (first ∷ kept rs))) i;
+        pulses = spans_in_turn (pulse_spans rs) (omega (arith, fits, runs_few cs, spans_few (is_pulse ticks end) rs)) i;
+        stretches = spans_in_turn (stretches (first ∷ kept rs)) (omega (
+          arith,
+          few,
+          gaps_few (first ∷ kept rs),
+          passing_few (λ s. nat_le ticks s.ticks) (gaps (first ∷ kept rs)),
+        )) i;
+        late_edges = spans_in_turn (late (first ∷ kept rs)) (omega (
+          arith,
+          few,
+          edges_few (first ∷ kept rs),
+          passing_few (λ s. nat_lt 0 s.ticks) (delayed_edges (first ∷ kept rs)),
+        )) i;
+        short_runs = (short_first (found_spans []) first (kept rs)
+            ∙ spans_in_turn (short_spans (first ∷ kept rs)) (omega (
+              arith,
+              few,
+              spans_few (λ r. nat_lt (ticks_of_run r) ticks) (first ∷ kept rs),
+            ))) i;
       }))
 
-  pub findings_are : (width : ℕ) (cs : List Change) → findings_of (found_in ticks end (all_x width) cs)
+  pub findings_are : (width : ℕ) (cs : List Change) → length cs < 2 ^ 63
+      → findings_of (found_in ticks end (all_x width) cs)
       ≡ deglitch_findings ticks end (runs_begun end (changes_from_zero width cs))
   unfolding runs_begun
-  findings_are width [] = findings_from (all_x width) []
-  findings_are width (c ∷ cs) = by_first (c.tick == 0) refl where
+  findings_are width [] fits = findings_from (all_x width) [] fits
+  findings_are width (c ∷ cs) fits = by_first (c.tick == 0) refl where
     by_first : (b : Bool) → (c.tick == 0) ≡ b
         → findings_of (if b then found_from ticks end c.value cs else found_from ticks end (all_x width) (c ∷ cs))
         ≡ deglitch_findings ticks end (runs_begun end (if b then c ∷ cs else change 0 (all_x width) ∷ c ∷ cs))
     by_first true at =
-        findings_from c.value cs
+        findings_from c.value cs (omega (arith, fits))
         ∙ (λ i. deglitch_findings ticks end (record {
           first = sym (eqb-true c.tick 0 at) i;
           last = tick_before end cs;
           value = c.value;
         } ∷ runs_begun end cs))
-    by_first false at = findings_from (all_x width) (c ∷ cs)
+    by_first false at = findings_from (all_x width) (c ∷ cs) fits

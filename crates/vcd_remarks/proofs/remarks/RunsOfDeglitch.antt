@@ -1,45 +1,12 @@
 -- What is found by a `deglitch` in the runs so far and in those that are left.
-use Rattle.std.proofs.Common.{◌≡◌, ℕ, ◌+◌, ◌<◌, ◌≤◌, true, false, if◌then◌else◌, Option, Some, None}
-use Rattle.std.proofs.Common.{List, [], ◌∷◌, length, drop, get_or, refl, ap, sym, ◌∙◌, arith}
+use Rattle.std.proofs.Common.{◌≡◌, ℕ, ◌+◌, ◌<◌, ◌≤◌, true, false, if◌then◌else◌}
+use Rattle.std.proofs.Common.{List, ◌∷◌, length, drop, get_or, refl, ap, sym, ◌∙◌}
 use Rattle.vcd_core.specs.declared.bit.Bit.{Bit}
 use Rattle.vcd_core.specs.declared.wave.Change.{Change}
-use Rattle.vcd_remarks.specs.declared.findings.found_spans.FoundSpans.{FoundSpans}
-use Rattle.vcd_remarks.specs.declared.findings.found_spans.Span.{Span}
 use Rattle.vcd_remarks.specs.declared.remarks.deglitching.FoundRuns.{FoundRuns}
-use Rattle.vcd_remarks.specs.declared.remarks.deglitching.KeptRun.{KeptRun}
 use Rattle.vcd_remarks.specs.ValueRuns.{ValueRun, tick_before, runs_begun, is_pulse}
-use Rattle.vcd_remarks.specs.inside.FoundTicks.{with_found}
 use Rattle.vcd_remarks.specs.inside.remarks.Deglitching.{with_runs, with_pulse, with_kept, kept_run, short_span}
-use Rattle.vcd_remarks.specs.inside.remarks.Deglitching.{AreFew, found_first, stretch_before, late_edge}
-use Rattle.vcd_remarks.specs.FoundTicks.{found_spans}
 use Rattle.vcd_remarks.proofs.remarks.RunsLeft.{runs_left, no_runs_left}
-
--- ---- how many
-
-few_more : (found : FoundSpans) (more : Option Span) (n : ℕ) → found.ticks.count ≤ n
-    → (with_found found more).ticks.count ≤ n + 1
-few_more found None n few = omega (arith, few)
-few_more found (Some s) n few = omega (arith, few)
-
-pub few_first : (ticks : ℕ) (r : ValueRun) → AreFew 1 (found_first ticks r)
-few_first ticks r =
-    (omega arith, omega arith, omega arith, few_more (found_spans []) (short_span ticks r) 0 (omega arith))
-
-pub few_with_pulse : (n : ℕ) (found : FoundRuns) (pulse : Option Span) → AreFew n found
-    → AreFew (n + 1) (with_pulse found pulse)
-few_with_pulse n found pulse (a, b, c, d) =
-    (few_more found.pulses pulse n a, omega (arith, b), omega (arith, c), omega (arith, d))
-
-pub few_with_kept : (n ticks : ℕ) (found : FoundRuns) (run : KeptRun) → AreFew n found
-    → AreFew (n + 1) (with_kept ticks found run)
-few_with_kept n ticks found run (a, b, c, d) = (
-  omega (arith, a),
-  few_more found.stretches (stretch_before ticks run) n b,
-  few_more found.late_edges (late_edge run) n c,
-  few_more found.short_runs run.short n d,
-)
-
--- ---- the changes that are left
 
 module _ (ticks end : ℕ) (cs : List Change) (i : ℕ) (c : Change) (within : i < length cs) (at : c ≡ get_or cs i c)
     (until : ℕ) (ends : until ≡ tick_before end (drop (i + 1) cs)) (last : ℕ) (value : List Bit)

@@ -1,60 +1,17 @@
--- The ticks that are found so far, and those that are left.
-use Rattle.std.proofs.Common.{◌≡◌, ℕ, suc, ◌+◌, ◌^◌, ◌<◌, ◌==◌, Bool, true, false, if◌then◌else◌}
-use Rattle.std.proofs.Common.{Option, List, [], ◌∷◌, ◌++◌, length, refl, sym, ap, ◌∙◌, arith, append_assoc}
-use Rattle.std.proofs.lemmas.List.{append-nil, length-append}
+-- The ticks that are found at edges that pass a test.
+use Rattle.std.proofs.Common.{◌≡◌, ℕ, suc, ◌^◌, ◌<◌, ◌==◌, Bool, true, false, if◌then◌else◌}
+use Rattle.std.proofs.Common.{Option, List, [], ◌∷◌, ◌++◌, length, refl, ap, ◌∙◌, arith}
 use Rattle.std.proofs.lemmas.List.FromFn.{length-range_with_len}
 use Rattle.std.proofs.lemmas.List.Sums.{count_by-le-length, length-filter}
 use Rattle.std.specs.List.{filter, flat_map, range_with_len}
 use Rattle.vcd_core.specs.declared.bit_edges.BitEdge.{BitEdge}
-use Rattle.vcd_core.specs.WaveView.{WaveView}
-use Rattle.vcd_core.specs.BitEdges.{bit_edges_of}
-use Rattle.vcd_decode.specs.LineEdges.{lines_of, line_edge}
-use Rattle.vcd_decode.proofs.shared.EdgeTicks.{bit_edges_are, over_edges}
+use Rattle.vcd_core.specs.declared.bit.Bit.{Bit}
+use Rattle.vcd_decode.specs.LineEdges.{line_edge, AreEdgesOf}
+use Rattle.vcd_decode.proofs.shared.EdgeTicks.{over_edges}
 use Rattle.vcd_remarks.specs.declared.findings.found_ticks.FoundTicks.{FoundTicks}
 use Rattle.vcd_remarks.specs.FoundTicks.{found_ticks, ticks_where}
-use Rattle.vcd_remarks.specs.inside.FoundTicks.{with_tick}
-use Rattle.vcd_remarks.proofs.findings.TicksInTurn.{found_with}
-
--- ticks are found, and others are left, of all
-pub record FoundSoFar (found : FoundTicks) (left all : List ℕ) : Type 0 where
-  pub done : List ℕ
-  pub is : found ≡ found_ticks done
-  pub rest : done ++ left ≡ all
-  pub few : length all < 2 ^ 64
-
-pub none_so_far : (found : FoundTicks) (left all : List ℕ) → found ≡ found_ticks [] → left ≡ all
-    → length all < 2 ^ 64 → FoundSoFar found left all
-none_so_far found left all none is few = record { done = []; is = none; rest = is; few = few }
-
-pub next_tick : (found next : FoundTicks) (passes : Bool) (t : ℕ) (left rest all : List ℕ)
-    → next ≡ (if passes then with_tick found t else found)
-    → left ≡ (if passes then t ∷ [] else []) ++ rest → FoundSoFar found left all → FoundSoFar next rest all
-next_tick found next true t left rest all is here so_far = record {
-  done = so_far.done ++ t ∷ [];
-  is = is ∙ ap (λ (f : FoundTicks). with_tick f t) so_far.is ∙ found_with so_far.done t;
-  rest = append_assoc so_far.done (t ∷ []) rest ∙ ap (λ ts. so_far.done ++ ts) (sym here) ∙ so_far.rest;
-  few = so_far.few;
-}
-next_tick found next false t left rest all is here so_far = record {
-  done = so_far.done;
-  is = is ∙ so_far.is;
-  rest = ap (λ ts. so_far.done ++ ts) (sym here) ∙ so_far.rest;
-  few = so_far.few;
-}
-
--- there is room for the next one
-pub has_room : (found : FoundTicks) (passes : Bool) (t : ℕ) (left rest all : List ℕ)
-    → left ≡ (if passes then t ∷ [] else []) ++ rest → FoundSoFar found left all → passes ≡ true
-    → found.count + 1 < 2 ^ 64
-has_room found false t left rest all here so_far does = absurd (cc)
-has_room found true t left rest all here so_far does =
-    let split = ap (λ ts. length (so_far.done ++ ts)) (sym here) ∙ ap length so_far.rest in
-    omega (arith, so_far.few, split, length-append so_far.done (t ∷ rest), ap (λ (f : FoundTicks). f.count) so_far.is)
-
-pub all_found : (found : FoundTicks) (left all : List ℕ) → left ≡ [] → FoundSoFar found left all
-    → found ≡ found_ticks all
-all_found found left all none so_far =
-    so_far.is ∙ ap found_ticks (sym (append-nil so_far.done) ∙ ap (λ ts. so_far.done ++ ts) (sym none) ∙ so_far.rest)
+use Rattle.vcd_remarks.specs.inside.FoundTicks.{with_tick, with_ticks, edge_ticks, with_edge_tick, found_left}
+use Rattle.vcd_remarks.proofs.findings.TicksInTurn.{found_so_far}
 
 -- the ticks that were found, unless any others were
 pub unless_any_found : (others ticks : List ℕ) → (if (found_ticks others).count == 0 then found_ticks ticks
@@ -65,29 +22,7 @@ unless_any_found others ticks = by_test (length others == 0)
     by_test true = refl
     by_test false = refl
 
--- ---- edges that pass a test
-
--- the ticks of such edges
-abbrev pub edge_ticks : (BitEdge → Bool) → List BitEdge → List ℕ
-edge_ticks test es = flat_map (λ e. if test e then e.tick ∷ [] else []) es
-
-pub next_edge : (test : BitEdge → Bool) (found next : FoundTicks) (passes : Bool) (e : BitEdge)
-    (left rest : List BitEdge) (all : List ℕ) → left ≡ e ∷ rest → passes ≡ test e
-    → next ≡ (if passes then with_tick found e.tick else found)
-    → FoundSoFar found (edge_ticks test left) all → FoundSoFar next (edge_ticks test rest) all
-next_edge test found next passes e left rest all split asked is so_far =
-    next_tick found next passes e.tick (edge_ticks test left) (edge_ticks test rest) all is
-    (ap (edge_ticks test) split
-    ∙ ap (λ (b : Bool). (if b then e.tick ∷ [] else []) ++ edge_ticks test rest) (sym asked)) so_far
-
--- there is room for its tick
-pub edge_fits : (test : BitEdge → Bool) (found : FoundTicks) (passes : Bool) (e : BitEdge)
-    (left rest : List BitEdge) (all : List ℕ) → left ≡ e ∷ rest → passes ≡ test e
-    → FoundSoFar found (edge_ticks test left) all → passes ≡ true → found.count + 1 < 2 ^ 64
-edge_fits test found passes e left rest all split asked so_far =
-    has_room found passes e.tick (edge_ticks test left) (edge_ticks test rest) all
-    (ap (edge_ticks test) split
-    ∙ ap (λ (b : Bool). (if b then e.tick ∷ [] else []) ++ edge_ticks test rest) (sym asked)) so_far
+-- ---- the ticks of edges that pass a test
 
 kept : (p : ℕ → Bool) (ts : List ℕ) → flat_map (λ t. if p t then t ∷ [] else []) ts ≡ filter p ts
 kept p [] = refl
@@ -99,21 +34,10 @@ kept p (t ∷ ts) = by_test (p t) ∙ ap (λ us. if p t then t ∷ us else us) (
     by_test true = refl
     by_test false = refl
 
-same_ticks : (f g : ℕ → List ℕ) (ts : List ℕ) → ((t : ℕ) → f t ≡ g t) → flat_map f ts ≡ flat_map g ts
-same_ticks f g [] same = refl
-same_ticks f g (t ∷ ts) same = λ i. same t i ++ same_ticks f g ts same i
-
--- a test that fails where no line changes, and is one of ticks
-pub edges_as_ticks : (waves : List (Option WaveView)) (test : BitEdge → Bool) (p : ℕ → Bool)
-    → ((t : ℕ) → test (line_edge (lines_of waves) t) ≡ p t)
-    → ((e : BitEdge) → e.at ≡ e.before → test e ≡ false) → (end : ℕ)
-    → edge_ticks test (bit_edges_of waves end) ≡ ticks_where p end
-edges_as_ticks waves test p same fails end =
-    over_edges (lines_of waves) end (bit_edges_of waves end) (bit_edges_are waves end)
-    (λ e. if test e then e.tick ∷ [] else [])
-    (λ t none. ap (λ (b : Bool). if b then t ∷ [] else []) (fails (line_edge (lines_of waves) t) none))
-    ∙ same_ticks _ _ (range_with_len 0 (suc end)) (λ t. ap (λ (b : Bool). if b then t ∷ [] else []) (same t))
-    ∙ kept p (range_with_len 0 (suc end))
+pub same_at_ticks : {A : Type 0} (f g : ℕ → List A) (ts : List ℕ) → ((t : ℕ) → f t ≡ g t)
+    → flat_map f ts ≡ flat_map g ts
+same_at_ticks f g [] same = refl
+same_at_ticks f g (t ∷ ts) same = λ i. same t i ++ same_at_ticks f g ts same i
 
 -- no more ticks than the end pass a test that fails at tick 0
 pub few_ticks : (p : ℕ → Bool) (end : ℕ) → p 0 ≡ false → end < 2 ^ 64 → length (ticks_where p end) < 2 ^ 64
@@ -127,3 +51,40 @@ few_ticks p end first fits =
       count_by-le-length p (range_with_len 1 end),
       length-range_with_len 1 end,
     )
+
+module _ (lines : List (Option (ℕ → Bit))) (end : ℕ) (edges : List BitEdge) (are : AreEdgesOf lines end edges)
+    (test : BitEdge → Bool) (p : ℕ → Bool) (same : (t : ℕ) → test (line_edge lines t) ≡ p t)
+    (fails : (e : BitEdge) → e.at ≡ e.before → test e ≡ false) where
+  -- a test that fails where no line changes, and is one of ticks
+  pub edges_as_ticks : edge_ticks test edges ≡ ticks_where p end
+  edges_as_ticks =
+      over_edges lines end edges are (λ e. if test e then e.tick ∷ [] else [])
+      (λ t none. ap (λ (b : Bool). if b then t ∷ [] else []) (fails (line_edge lines t) none))
+      ∙ same_at_ticks _ _ (range_with_len 0 (suc end)) (λ t. ap (λ (b : Bool). if b then t ∷ [] else []) (same t))
+      ∙ kept p (range_with_len 0 (suc end))
+
+  -- from the first edge on these ticks are found
+  pub found_at_ticks : p 0 ≡ false → end < 2 ^ 64
+      → found_left test (found_ticks []) edges ≡ found_ticks (ticks_where p end)
+  found_at_ticks first fits =
+      ap (with_ticks (found_ticks [])) edges_as_ticks
+      ∙ found_so_far [] (ticks_where p end) (omega (arith, few_ticks p end first fits))
+
+-- ---- one more edge
+
+module _ (test : BitEdge → Bool) (found : FoundTicks) (e : BitEdge) (more : List BitEdge) where
+  pub edge_found : found_left test (with_edge_tick test found e) more ≡ found_left test found (e ∷ more)
+  unfolding with_ticks
+  edge_found = by_test (test e)
+    where
+      by_test : (b : Bool) → with_ticks (if b then with_tick found e.tick else found) (edge_ticks test more)
+          ≡ with_ticks found ((if b then e.tick ∷ [] else []) ++ edge_ticks test more)
+      by_test true = refl
+      by_test false = refl
+
+  pub tick_taken : (next : FoundTicks) (passes : Bool) → passes ≡ test e
+      → next ≡ (if passes then with_tick found e.tick else found)
+      → found_left test next more ≡ found_left test found (e ∷ more)
+  tick_taken next passes asked is =
+      ap (λ (f : FoundTicks). found_left test f more)
+      (is ∙ ap (λ (b : Bool). if b then with_tick found e.tick else found) asked) ∙ edge_found

@@ -1,8 +1,8 @@
 -- Remarks on captures that lack the waves of silent signals: those on each line are the same.
-use Rattle.std.proofs.Common.{◌≡◌, ℕ, ◌+◌, Bool, List, [], ◌∷◌, ◌++◌, Result, Ok, Err, false, length, map, refl, ap}
+use Rattle.std.proofs.Common.{◌≡◌, ℕ, List, [], ◌++◌, Result, Ok, Err, length, map, refl, ap}
 use Rattle.std.proofs.Common.{◌∙◌, sym, Option, Some, None, if◌then◌else◌}
 use Rattle.std.specs.Prelude.{is_some}
-use Rattle.std.specs.List.{AllByRecursion, enumerate_from, flat_map}
+use Rattle.std.specs.List.{flat_map}
 use Rattle.std.specs.Option.{option_map, option_to_list}
 use Rattle.vcd_core.specs.Contents.{Contents, SignalContents, signal_at}
 use Rattle.vcd_core.specs.Names.{full_names}
@@ -14,29 +14,26 @@ use Rattle.vcd_edit.specs.declared.edit.Edit.TheVariants.{Invert, Shift, Deglitc
 use Rattle.vcd_hollow.proofs.shared.Outlines.{fault_is_of_outline}
 use Rattle.vcd_hollow.proofs.shared.EditsWithOthers.{others_keep_outline, same_signal}
 use Rattle.vcd_journal.specs.declared.step.Step.TheVariants as steps
-use Rattle.vcd_journal.specs.History.{History, replay}
+use Rattle.vcd_journal.specs.History.{replay}
 use Rattle.vcd_hollow.specs.Origins.{origins}
-use Rattle.vcd_hollow.specs.Hollow.{emptied, hollow}
+use Rattle.vcd_hollow.specs.Hollow.{emptied}
 use Rattle.vcd_hollow.proofs.shared.Hollow.{replay_on_hollow}
 use Rattle.vcd_script.specs.declared.script.command.Command.{Command}
 use Rattle.vcd_script.specs.declared.script.command.Command.TheVariants as commands
 use Rattle.vcd_script.specs.declared.script.line_error.LineError.{LineError}
 use Rattle.vcd_script.specs.ScriptCommands.{command_of_line}
-use Rattle.vcd_hollow.specs.HollowRun.{waves_asked, origins_of_line}
+use Rattle.vcd_hollow.specs.HollowRun.{waves_asked}
 use Rattle.vcd_remarks.specs.NamedSignals.{signals_of_command}
 use Rattle.vcd_remarks.specs.NameRemarks.{name_remark, name_remarks}
 use Rattle.vcd_remarks.specs.EditFindings.{deglitch_findings, shift_findings, invert_findings, force_findings}
 use Rattle.vcd_remarks.specs.EditFindings.{edit_findings}
 use Rattle.vcd_remarks.specs.Findings.{finding_text}
-use Rattle.vcd_remarks.specs.declared.remarks.spi.TheConstants.{MOSI, MISO}
-use Rattle.vcd_remarks.specs.DecoderFindings.{told, told_of, uart_findings, clk_findings, data_findings, cs_findings}
-use Rattle.vcd_remarks.specs.DecoderFindings.{bus_findings}
+use Rattle.vcd_remarks.specs.DecoderFindings.{told, uart_findings, spi_findings, bus_findings}
 use Rattle.vcd_remarks.specs.Remarks.{remarks, remarks_text}
 use Rattle.vcd_remarks.specs.ValueRuns.{value_runs}
 use Rattle.vcd_remarks.specs.RemarksOfRun.{remarks_asked, line_remarks, RemarksWithOthers, RemarksOnHollow}
-use Rattle.vcd_script.specs.Run.{history_at, capture_at}
 use Rattle.vcd_hollow.proofs.shared.CommandsOfOutline.{command_is_of_outline}
-use Rattle.vcd_hollow.proofs.shared.HollowRuns.{IsHeard, all_split, all_of_each, have_own, histories, in_force_own}
+use Rattle.vcd_hollow.proofs.shared.HollowRuns.{all_split, have_own}
 
 -- ---- the remarks on a command on a capture with other waves, none of which it asks for
 
@@ -71,10 +68,9 @@ remarks_with_others others c (commands.Spi clk mosi miso cs u) own =
     let first = all_split _ (option_to_list mosi) (option_to_list miso) last.0 in
     let clock = same_signal others c clk own.0 in
     let chip = same_if_there others c cs last.1 in
-    λ i. told (clk_findings c.end (clock i))
-    ++ told_of (data_findings MOSI u (clock i) (chip i) c.end) (same_if_there others c mosi first.0 i)
-    ++ told_of (data_findings MISO u (clock i) (chip i) c.end) (same_if_there others c miso first.1 i)
-    ++ told_of (cs_findings u (clock i) c.end) (chip i)
+    let out = same_if_there others c mosi first.0 in
+    let back = same_if_there others c miso first.1 in
+    λ i. told (spi_findings u (clock i) (out i) (back i) (chip i) c.end)
 remarks_with_others others c (commands.I2c scl sda) own = λ i.
     told (bus_findings c.end (same_signal others c scl own.0 i) (same_signal others c sda own.1.0 i))
 remarks_with_others others c command own = refl
@@ -82,7 +78,7 @@ remarks_with_others others c command own = refl
 -- ---- the remarks on a line
 
 -- names are those of the outline
-same_names : (others : List OtherChanges) (c : Contents)
+pub same_names : (others : List OtherChanges) (c : Contents)
     → full_names (with_others others c).signals ≡ full_names c.signals
 same_names others c =
     sym (names_of_outline (with_others others c).signals)
@@ -105,34 +101,11 @@ line_same others c number line own =
     (command_is_of_outline (with_others others c) c line (others_keep_outline others c))
     ∙ ap (remarks_text number) (asked_same others c line (command_of_line c line) own)
 
--- ---- runs
-
-flat_map_same : {X A : Type 0} (P : X → Type 0) (f g : X → List A) → ((x : X) → P x → f x ≡ g x) → (xs : List X)
-    → AllByRecursion P xs → flat_map f xs ≡ flat_map g xs
-flat_map_same P f g same [] all = refl
-flat_map_same P f g same (x ∷ xs) all = λ i. same x all.0 i ++ flat_map_same P f g same xs all.1 i
-
-module _ (silent : ℕ → Bool) (c : Contents) (skipped depth : ℕ) (lines : List (List ℕ))
-    (heard : AllByRecursion (λ p. IsHeard silent c skipped depth lines p.0 p.1) (enumerate_from 0 lines)) where
-  run_line_same : (n : ℕ) (line : List ℕ) → IsHeard silent c skipped depth lines n line
-      → line_remarks (n + 1) (capture_at (hollow silent c) skipped depth lines n) line
-      ≡ line_remarks (n + 1) (capture_at c skipped depth lines n) line
-  run_line_same n line asked =
-      let h : History = history_at c skipped depth lines n in
-      let ks : List ℕ = origins (length c.signals) h.edits in
-      ap (λ (g : History). line_remarks (n + 1) (replay (hollow silent c) g.edits) line)
-      (histories silent c skipped depth lines heard n)
-      ∙ ap (λ (x : Contents). line_remarks (n + 1) x line)
-      (replay_on_hollow silent c h.edits (in_force_own silent c skipped depth lines heard n))
-      ∙ line_same (map (emptied silent) ks) (replay c h.edits) (n + 1) line
-      (have_own silent ks (waves_asked (command_of_line (replay c h.edits) line)) asked)
+-- ---- on a hollow capture
 
 pub remarks_on_hollow : RemarksOnHollow
-remarks_on_hollow silent c skipped depth lines asked =
-    let heard : AllByRecursion (λ p. IsHeard silent c skipped depth lines p.0 p.1) (enumerate_from 0 lines) =
-    all_of_each (λ k. silent k ≡ false) (λ (p : ℕ × List ℕ). origins_of_line c skipped depth lines p.0 p.1)
-    (enumerate_from 0 lines) asked in
-    flat_map_same (λ (p : ℕ × List ℕ). IsHeard silent c skipped depth lines p.0 p.1)
-    (λ p. line_remarks (p.0 + 1) (capture_at (hollow silent c) skipped depth lines p.0) p.1)
-    (λ p. line_remarks (p.0 + 1) (capture_at c skipped depth lines p.0) p.1)
-    (λ p here. run_line_same silent c skipped depth lines heard p.0 p.1 here) (enumerate_from 0 lines) heard
+remarks_on_hollow silent c h number line own heard =
+    let ks : List ℕ = origins (length c.signals) h.edits in
+    ap (λ (x : Contents). line_remarks number x line) (replay_on_hollow silent c h.edits own)
+    ∙ line_same (map (emptied silent) ks) (replay c h.edits) number line
+    (have_own silent ks (waves_asked (command_of_line (replay c h.edits) line)) heard)

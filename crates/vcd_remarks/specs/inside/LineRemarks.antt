@@ -1,4 +1,4 @@
--- Remarks on a line, written by an observer of the lines.
+-- Remarks on a line, as they are written.
 use Rattle.std.specs.Prelude.{◌≡◌, ◌≤◌, ℕ, Bool, true, false, List, [], length, take, Option}
 use Rattle.std.specs.Io.KnownBytes.{Appends}
 

@@ -1,5 +1,5 @@
--- Where a line is lost, edge by edge. The line is the first of four.
-use Rattle.std.specs.Prelude.{◌&&◌, Bool, not, Option}
+-- Where a line is lost, edge by edge.
+use Rattle.std.specs.Prelude.{ℕ, ◌&&◌, Bool, not, Option}
 use Rattle.vcd_core.specs.declared.bit.Bit.{Bit}
 use Rattle.vcd_core.specs.declared.bit_edges.BitEdge.{BitEdge}
 use Rattle.vcd_decode.specs.inside.PartialWord.{line_bit}
@@ -12,6 +12,6 @@ abbrev pub become_lost : Pull → (before at : Option Bit) → Bool
 become_lost pull before at =
     is_present_and (λ b. not (is_lost pull b)) before && is_present_and (is_lost pull) at
 
--- whether the line is lost from an edge on
-abbrev pub loses_line : Pull → BitEdge → Bool
-loses_line pull e = become_lost pull (line_bit e.before 0) (line_bit e.at 0)
+-- whether the line at a place is lost from an edge on
+abbrev pub loses_line_at : Pull → (line : ℕ) → BitEdge → Bool
+loses_line_at pull line e = become_lost pull (line_bit e.before line) (line_bit e.at line)

@@ -1,6 +1,6 @@
 //! What was found and lasts some ticks.
 
-ghost use Rattle.std.specs.Prelude.{◌≡◌, ◌<◌, ◌+◌, ◌^◌, []};
+ghost use Rattle.std.specs.Prelude.{◌≡◌, []};
 ghost use Rattle.vcd_remarks.specs.FoundTicks as spec;
 ghost use Rattle.vcd_remarks.specs.inside.FoundTicks as inside;
 
@@ -38,7 +38,6 @@ impl FoundSpans {
 
     /// These, and one more after them if there is one.
     pub fn with_found(self, found: Option<Span>) -> FoundSpans
-        requires { self.ticks.count + 1 < 2 ^ 64 }
         ensures { result ≡ inside.with_found self found }
     {
         match found {

@@ -1,6 +1,6 @@
 //! The ticks at which something was found.
 
-ghost use Rattle.std.specs.Prelude.{◌≡◌, ◌<◌, ◌+◌, ◌^◌, ◌==◌, [], min, take, true, if◌then◌else◌};
+ghost use Rattle.std.specs.Prelude.{◌≡◌, ◌==◌, [], min, take, if◌then◌else◌};
 ghost use Rattle.vcd_remarks.specs.FoundTicks as spec;
 ghost use Rattle.vcd_remarks.specs.inside.FoundTicks as inside;
 
@@ -30,9 +30,8 @@ impl FoundTicks {
         }
     }
 
-    /// These ticks, and a later one after them.
+    /// These ticks, and a later one after them, counted as far as a `u64` goes.
     pub fn with_tick(self, tick: u64) -> FoundTicks
-        requires { self.count + 1 < 2 ^ 64 }
         ensures { result ≡ inside.with_tick self tick }
     {
         let mut first = self.first;
@@ -40,14 +39,13 @@ impl FoundTicks {
             first[self.count as usize] = tick;
         }
         FoundTicks {
-            count: self.count + 1,
+            count: self.count.saturating_add(1),
             first,
         }
     }
 
     /// These ticks, and a later one after them if a test `passes` at it.
     pub fn with_tick_if(self, passes: bool, tick: u64) -> FoundTicks
-        requires { passes ≡ true → self.count + 1 < 2 ^ 64 }
         ensures { result ≡ (if passes then inside.with_tick self tick else self) }
     {
         if passes {

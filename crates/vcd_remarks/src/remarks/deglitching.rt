@@ -1,6 +1,6 @@
 //! What is found by a `deglitch`, in one walk over the changes of the signal.
 
-ghost use Rattle.std.specs.Prelude.{◌≡◌, ◌+◌, ◌-◌, ◌≤◌, ◌^◌, ℕ, List};
+ghost use Rattle.std.specs.Prelude.{◌≡◌, ◌-◌, ◌≤◌, ℕ, List};
 ghost use Rattle.vcd_core.specs.declared.bit.Bit.{Bit};
 ghost use Rattle.vcd_core.specs.Value.{all_x};
 ghost use Rattle.vcd_remarks.specs.EditFindings as spec;
@@ -74,7 +74,6 @@ impl KeptRun {
 impl FoundRuns {
     /// This, and a pulse more.
     fn with_pulse(self, pulse: Option<Span>) -> FoundRuns
-        requires { inside.AreFew (2 ^ 64 - 2) self }
         ensures { result ≡ inside.with_pulse self pulse }
     {
         FoundRuns {
@@ -85,8 +84,7 @@ impl FoundRuns {
 
     /// This, and a run more that stays.
     fn with_kept(self, run: KeptRun, ticks: u64) -> FoundRuns
-        requires few { inside.AreFew (2 ^ 64 - 2) self }
-        requires ordered { run.gap ≤ run.first }
+        requires { run.gap ≤ run.first }
         ensures { result ≡ inside.with_kept ticks self run }
     {
         FoundRuns {

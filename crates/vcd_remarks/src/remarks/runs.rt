@@ -3,7 +3,7 @@
 ghost use Rattle.std.specs.Prelude.{◌≡◌};
 ghost use Rattle.vcd_core.specs.Contents.{signal_at};
 ghost use Rattle.vcd_core.specs.CaptureContents.{contents};
-ghost use Rattle.vcd_core.specs.Value.{all_x, letter_at};
+ghost use Rattle.vcd_core.specs.Value.{all_x};
 ghost use Rattle.vcd_remarks.specs.ValueRuns as runs;
 
 use vcd_core::{Bit, Capture, Change, Value};
@@ -36,13 +36,4 @@ pub fn tick_before(changes: &[Change], end: u64) -> u64
         [first, ..] => first.tick.saturating_sub(1),
         [] => end,
     }
-}
-
-/// The letter of a change of a line of one bit.
-pub fn letter_of(change: &Change) -> Bit
-    ensures { result ≡ letter_at change.now.value 0 }
-{
-    // its clause bounds the width
-    let _width = change.value.width();
-    change.value.bit(0)
 }

@@ -2,4 +2,3 @@
 pub mod Answering
 pub mod Reply
 pub mod Listing
-pub mod Annotations

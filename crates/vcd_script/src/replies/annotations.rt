@@ -4,9 +4,9 @@ ghost use Rattle.std.specs.Prelude.{◌≡◌, ◌<◌, ◌++◌, codes, OnOk, I
 ghost use Rattle.std.specs.Fmt.{decimal, digit_glyph};
 ghost use Rattle.vcd_script.specs.DecoderReply.{hex_digits, hex_text, data_text, direction_text};
 ghost use Rattle.vcd_script.specs.DecoderReply.{kind_text, annotation_line};
+ghost use Rattle.vcd_script.specs.AnnotationLines.{annotations_text};
 ghost use Rattle.vcd_script.specs.inside.replies.Reply.{with_line_feed};
 ghost use Rattle.vcd_decode.specs.declared.annotation.Kind.TheVariants as kinds;
-ghost use Rattle.vcd_script.specs.inside.replies.Annotations.{annotations_text};
 
 use crate::replies::MemoryResult;
 use crate::replies::appending::{append_bytes, append_decimal, append_number};
@@ -25,10 +25,24 @@ pub fn annotations_to_bytes(
         ≡ annotations_text decoder.now digits annotations.now) }
 {
     let mut text = Vec::new(alloc);
-    for annotation in annotations {
-        append_annotation(&mut text, decoder, digits, annotation)?;
-    }
+    append_annotations(&mut text, decoder, digits, annotations)?;
     Ok(text)
+}
+
+/// Appends the line of each of some annotations.
+pub fn append_annotations(
+    text: &mut Vec<u8>,
+    decoder: &[u8],
+    digits: u64,
+    annotations: &[Annotation],
+) -> MemoryResult<()>
+    ensures { OnOk result (text.new.items
+        ≡ text.old.items ++ annotations_text decoder.now digits annotations.now) }
+{
+    for annotation in annotations {
+        append_annotation(text, decoder, digits, annotation)?;
+    }
+    Ok(())
 }
 
 /// Appends the line of an annotation.

@@ -80,7 +80,7 @@ pub fn i2c_text(alloc: Global, capture: &Capture, scl: usize, sda: usize) -> Mem
 }
 
 /// How many hexadecimal digits this many bits have.
-fn nibbles(bits: u64) -> u64
+pub fn nibbles(bits: u64) -> u64
     requires { bits ≤ 64 }
     ensures { result ≡ spec.nibbles bits }
 {

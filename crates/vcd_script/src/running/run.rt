@@ -12,9 +12,9 @@ ghost use Rattle.vcd_journal.specs.Machine.{initial_machine};
 ghost use Rattle.vcd_script.specs.inside.running.Stages.{EndsBeforeOutput};
 ghost use Rattle.vcd_script.specs.inside.running.Run.{ScriptGives};
 
-use crate::running::run_lines::{RunInput, run_lines};
+use crate::running::run_lines::run_lines;
 use crate::running::script_input::{SCRIPT_LIMIT, read_script};
-use crate::running::{RunError, Summary, Unobserved};
+use crate::running::{RunError, Summary};
 use std::alloc::Global;
 use vcd_core::{Capture, Sink, Source};
 use vcd_journal::{DEPTH_LIMIT, Session};
@@ -95,11 +95,8 @@ fn run_script<R: Source, S: Source, P: Sink>(
     let loaded = read(alloc, capture_reader)?;
     let script = read_script(alloc, script_reader)?;
     let mut session = begin_session(alloc, loaded.capture, depth)?;
-    let input = RunInput {
-        script: script.as_slice(),
-        skipped: loaded.skipped,
-    };
-    let refused = run_lines(alloc, &mut session, &input, replies, &mut Unobserved)?;
+    let skipped = loaded.skipped;
+    let refused = run_lines(alloc, &mut session, script.as_slice(), skipped, replies)?;
     Ok((session, refused))
 }
 

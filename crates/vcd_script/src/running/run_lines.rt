@@ -1,66 +1,52 @@
 //! The lines of a script, run one after another.
 
-ghost use Rattle.std.specs.Prelude.{◌≡◌, ◌≤◌, ◌<◌, ◌^◌, ℕ, false, true, length, take, IfOk, IfErr};
+ghost use Rattle.std.specs.Prelude.{◌≡◌, ◌≤◌, ◌<◌, ◌^◌, ℕ, false, true, length, IfOk, IfErr};
 ghost use Rattle.std.specs.Prelude.{OnOk, Ok, List};
 ghost use Rattle.std.specs.Io.KnownBytes.{Appends, Keeps};
 ghost use Rattle.vcd_script.specs.Script.{script_lines};
 ghost use Rattle.vcd_script.specs.LineRunEnds.{HasFailedAt, RunsLines, EndsAtLine, StopsInLines};
-ghost use Rattle.vcd_script.specs.ObservedLines.{SeesLines};
 ghost use Rattle.vcd_script.specs.inside.running.RunLines.{StopsAtReply};
 
 use crate::replies::{MemoryResult, Reply, answer_line};
-use crate::running::{LineObserver, RunError};
+use crate::running::RunError;
 use crate::script::split_line;
 use std::alloc::Global;
 use vcd_core::{Sink, write_all};
 use vcd_journal::Session;
 
-/// What a run of lines takes beside its session.
-#[derive(Clone, Copy)]
-pub struct RunInput<'s> {
-    pub script: &'s [u8],
-    /// How many variables of the capture's file were left out.
-    pub skipped: u64,
-}
-
 /// Runs the lines of a script, in order, each on the current capture. The reply to a line is
 /// written before the next line is read. Then the replies are flushed. Returns how many lines were
-/// refused. The observer is shown each line first.
+/// refused. `skipped` is how many variables of the capture's file were left out.
 ///
 /// The first error ends it: memory is refused at a line, after which the replies are flushed too,
 /// or the writer of the replies fails. It holds the reply of one line at a time.
-pub fn run_lines<P: Sink, O: LineObserver>(
+pub fn run_lines<P: Sink>(
     alloc: Global,
     session: &mut Session,
-    input: &RunInput<'_>,
+    script: &[u8],
+    skipped: u64,
     replies: &mut P,
-    observer: &mut O,
 ) -> Result<u64, RunError>
     requires ready { P.has_failed replies.old ≡ false }
-    requires short { length input.now.script.now < 2 ^ 60 }
+    requires short { length script.now < 2 ^ 60 }
     ensures ran { IfOk result (λ refused.
-        RunsLines input.now.skipped (script_lines input.now.script.now) session.old session.new
+        RunsLines skipped (script_lines script.now) session.old session.new
         refused (P.taken replies.old) (P.taken replies.new)) }
     ensures not_failed { OnOk result (P.has_failed replies.new ≡ false) }
     ensures flushed { OnOk result (P.is_flushed replies.new ≡ true) }
     ensures fault { IfErr result EndsAtLine }
     ensures failed { IfErr result (HasFailedAt (P.has_failed replies.new)
         (P.is_flushed replies.new)) }
-    ensures stopped { IfErr result (StopsInLines input.now.skipped
-        (script_lines input.now.script.now) session.old (P.taken replies.old)
-        (P.taken replies.new)) }
-    // whatever the result
-    ensures observed { (count : ℕ) × SeesLines O.sees 1 session.old
-        (take count (script_lines input.now.script.now)) observer.old observer.new }
+    ensures stopped { IfErr result (StopsInLines skipped (script_lines script.now) session.old
+        (P.taken replies.old) (P.taken replies.new)) }
 {
-    let mut rest = input.script;
+    let mut rest = script;
     let mut number = 0u64;
     let mut refused = 0u64;
     let mut written = 0u128;
     while let Some((line, following)) = split_line(rest) {
         number += 1;
-        observer.observe(session.capture(), number, line);
-        let answer = answer_line(alloc, session, input.skipped, number, line);
+        let answer = answer_line(alloc, session, skipped, number, line);
         let reply = write_answer(answer, number, replies, written)?;
         refused += u64::from(reply.is_refused);
         written += reply.text.len() as u128;

@@ -4,16 +4,9 @@ use Rattle.vcd_amend_run.proofs.dry_running.hear_lines.Goals as goal
 
 pub loop-line-preserved : goal.loop-line-preserved
 loop-line-preserved c = record {
-  left = line_more c.loop-line.invariant.left c.in-Some.ensures.0 c.hear_line.new.state.session
-      c.hear_line.new.state.history c.hear_line.new.heard c.in-Ok.ensures;
+  left = line_more c.loop-line.invariant.left c.in-Some.ensures.0 c.hear_line.new.state c.in-Ok.ensures;
   number = omega (arith, c.in-Some.ensures.1);
 }
 
-pub returns-clause-machine : goal.returns-clause-machine
-returns-clause-machine c = (none_left c.loop-line.rest.now c.loop-line.invariant.left c.in_default.ensures).0
-
-pub returns-clause-notes : goal.returns-clause-notes
-returns-clause-notes c = (none_left c.loop-line.rest.now c.loop-line.invariant.left c.in_default.ensures).1
-
 pub returns-clause-heard : goal.returns-clause-heard
-returns-clause-heard c = (none_left c.loop-line.rest.now c.loop-line.invariant.left c.in_default.ensures).2
+returns-clause-heard c = none_left c.loop-line.rest.now c.loop-line.invariant.left c.in_default.ensures

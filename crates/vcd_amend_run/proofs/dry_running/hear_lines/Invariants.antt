@@ -5,8 +5,7 @@ use Rattle.vcd_amend_run.proofs.dry_running.hear_lines.Given as goal
 
 abbrev pub invariant-loop-line : goal.invariant-loop-line
 invariant-loop-line l = record {
-  left : AreLeft l.skipped (script_lines l.script) l.fn.state.session l.fn.state.history l.fn.heard l.number
-      (script_lines l.rest) l.state.session l.state.history l.heard;
+  left : AreLeft l.skipped (script_lines l.script) l.fn.state l.number (script_lines l.rest) l.state;
   number : l.number + length l.rest ≤ length l.script;
 }
 

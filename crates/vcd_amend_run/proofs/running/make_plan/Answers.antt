@@ -17,7 +17,7 @@ use Rattle.vcd_amend_run.specs.inside.HeardNames.{hears, HearsAll}
 use Rattle.vcd_amend_run.specs.inside.Running.{error_of_hearing}
 use Rattle.vcd_amend_run.specs.declared.running.AmendRunError.TheVariants as errors
 use Rattle.vcd_amend_run.proofs.hollow_reading.HollowSignals.{outline_is_read, hollow_is_read, short_is_read}
-use Rattle.vcd_amend_run.proofs.running.PlannedRun.{is_planned, ordered_cuts, sizes_stay, origins_stay}
+use Rattle.vcd_amend_run.proofs.running.PlannedRun.{is_planned, ordered_cuts, sizes_stay, origins_stay, planned_whole}
 use Rattle.vcd_amend_run.proofs.running.PlannedRun.{names_by_outlines}
 use Rattle.vcd_amend_run.proofs.running.EndsOfRun.{declarations_end, outline_ends, script_ends, memory_ends}
 use Rattle.vcd_amend_run.proofs.running.EndsOfRun.{hearing_ends, sizes_end, at_error}
@@ -123,7 +123,7 @@ returns-clause-planned g c file lines shows script_shows =
           script tried refl names
           (subst (λ (d : Contents). IfSome (g.R.Source.coming c.args.passes.now.changes)
           (λ f. (length f ≤ LONG_FILE_LIMIT) × HasHollow SIGNAL_LIMIT f (outline d) dry.heard.items first))
-          c.in_ok-hollow.ensures.kept hollowed) shows script_shows
+          c.in_ok-hollow.ensures.kept hollowed) (shows.0, shows.1, shows.2) script_shows
     ]
 
 pub returns-clause-lines : goal.returns-clause-lines
@@ -147,6 +147,14 @@ returns-clause-ordered g c =
     ordered_cuts (outline (contents c.in_ok-read.read.capture)) c.in_ok-read.read.skipped c.args.depth
     (script_lines c.in_ok-script.script.items) c.in_ok-hollow.dry
     (rw (c.as_slice-2.ensures.value) at c.in_ok-hollow.ensures.tried)
+
+pub returns-clause-lines_planned : goal.returns-clause-lines_planned
+returns-clause-lines_planned g c =
+    let read : Contents = contents c.in_ok-read.read.capture in
+    planned_whole (outline read) (contents c.in_ok-first.first) c.in_ok-read.read.skipped c.args.depth
+    (script_lines c.in_ok-script.script.items) c.in_ok-hollow.dry
+    (rw (c.as_slice-2.ensures.value) at c.in_ok-hollow.ensures.tried)
+    (outline_of_outline read ∙ sym (ap outline c.in_ok-hollow.ensures.kept) ∙ sym c.in_ok-first.ensures.outline)
 
 pub returns-clause-placed : goal.returns-clause-placed
 returns-clause-placed g c =

@@ -1,4 +1,4 @@
-use Rattle.std.proofs.Common.{List, refl, sym, ap, subst, ◌∙◌}
+use Rattle.std.proofs.Common.{List, false, refl, sym, ap, subst, ◌∙◌}
 use Rattle.std.specs.Global.{Vec}
 use Rattle.std.specs.Io.KnownBytes.{Appends}
 use Rattle.vcd_core.specs.CaptureContents.{contents}
@@ -8,7 +8,7 @@ use Rattle.vcd_text.specs.Grammar.{VariableDeclaration}
 use Rattle.vcd_amend.specs.DeclaredVariables.{declarations_of, HaveSizesOf}
 use Rattle.vcd_amend.specs.declared.declarations.DeclaredVariable.{DeclaredVariable}
 use Rattle.vcd_amend_run.specs.inside.Running.{IsEdited}
-use Rattle.vcd_amend_run.proofs.running.CarriedOut.{is_edited, comes_from}
+use Rattle.vcd_amend_run.proofs.running.CarriedOut.{is_edited, comes_from, hollow_of_none}
 use Rattle.vcd_amend_run.proofs.running.EndsOfRun.{plan_ends, lines_end, at_error}
 use Rattle.vcd_amend_run.proofs.running.RemarkedRun.{none_taken, remarks_of_plan}
 use Rattle.vcd_amend_run.proofs.running.run_script.Goals as goal
@@ -24,7 +24,8 @@ returns-in_err-check_plan-clause-fails g c =
     at_error c.from_residual-in_err-check_plan.result c.in_err-check_plan.field-0.0 _
     c.from_residual-in_err-check_plan.ensures.1
     (plan_ends c.args.depth c.args.writes _ _ _ (declarations_of plan.declared.items) plan.skipped (contents plan.first)
-    plan.origins.items plan.cuts.items plan.takes_skipped_name plan.script.items c.in_err-check_plan.field-0.0
+    plan.streamed.items plan.origins.items plan.cuts.items plan.takes_skipped_name plan.script.items
+    c.in_err-check_plan.field-0.0
     c.in_err-check_plan.ensures.refused c.in_ok-plan.ensures.planned (refl, c.requires.replies_ready))
 
 pub returns-in_err-edited-clause-fails : goal.returns-in_err-edited-clause-fails
@@ -32,9 +33,9 @@ returns-in_err-edited-clause-fails g c =
     let plan = c.in_ok-plan.plan in
     at_error c.from_residual-in_err-edited.result c.in_err-edited.field-0.0 _ c.from_residual-in_err-edited.ensures.1
     (lines_end c.args.depth c.args.writes _ _ _ (declarations_of plan.declared.items) plan.skipped (contents plan.first)
-    plan.origins.items plan.cuts.items plan.takes_skipped_name plan.script.items c.in_ok-plan.ensures.planned
-    c.in_err-edited.field-0.0
-    c.in_err-edited.ensures.stops)
+    plan.streamed.items plan.origins.items plan.cuts.items plan.takes_skipped_name plan.script.items
+    c.in_ok-plan.ensures.planned
+    c.in_err-edited.field-0.0 (rw (c.in_ok-plan.ensures.again_kept) at c.in_err-edited.ensures.stops))
 
 pub returns-clause-edited : goal.returns-clause-edited
 returns-clause-edited g c file lines shows script_shows =
@@ -46,10 +47,11 @@ returns-clause-edited g c file lines shows script_shows =
     (ap (λ (all : Vec DeclaredVariable). declarations_of all.items) (sym c.in_ok-edited.ensures.kept.0))
     (rw (c.in_ok-edited.ensures.kept.1, c.in_ok-edited.ensures.kept.2, c.in_ok-edited.ensures.kept.3)
     (is_edited file lines plan.script.items c.args.depth c.args.writes (declarations_of plan.declared.items)
-    plan.skipped
-    (contents plan.first) plan.origins.items plan.cuts.items plan.takes_skipped_name e.session e.refused _ _
-    (c.in_ok-plan.ensures.planned file lines shows script_shows) c.in_ok-check_plan.ensures.free
-    c.in_ok-edited.ensures.ran))
+    plan.skipped (contents plan.first) plan.streamed.items plan.origins.items plan.cuts.items plan.takes_skipped_name
+    _ (g.O.Reopen.has_failed c.edit.new.again) e.session e.refused _ _
+    (c.in_ok-plan.ensures.planned file lines shows script_shows)
+    c.in_ok-check_plan.ensures.free
+    (ap g.O.Reopen.whole c.in_ok-plan.ensures.again_kept ∙ shows.3) c.in_ok-edited.ensures.ran))
 
 pub returns-clause-lines : goal.returns-clause-lines
 returns-clause-lines g c file lines shows script_shows = λ d n means.
@@ -69,8 +71,9 @@ returns-clause-come g c =
     let plan = c.in_ok-plan.plan in
     rw (c.in_ok-edited.ensures.kept.1, c.in_ok-edited.ensures.kept.2)
     (comes_from (contents plan.first) plan.skipped c.args.depth (script_lines plan.script.items) plan.origins.items
-    c.in_ok-edited.edited.session c.in_ok-edited.edited.refused _ _ c.in_ok-plan.ensures.placed
-    c.in_ok-edited.ensures.ran)
+    c.in_ok-edited.edited.session c.in_ok-plan.ensures.placed
+    (c.in_ok-edited.ensures.session (contents plan.first) (λ k. false) (sym (hollow_of_none (contents plan.first)))
+    c.in_ok-plan.ensures.lines_planned))
 
 -- ---- the remarks
 
@@ -86,12 +89,12 @@ pub returns-in_err-edited-clause-remarked : goal.returns-in_err-edited-clause-re
 returns-in_err-edited-clause-remarked g c =
     let plan = c.in_ok-plan.plan in
     remarks_of_plan c.args.depth _ _ _ (declarations_of plan.declared.items) plan.skipped (contents plan.first)
-    plan.origins.items plan.cuts.items plan.takes_skipped_name plan.script.items c.in_ok-plan.ensures.planned
-    c.in_err-edited.ensures.remarked
+    plan.streamed.items plan.origins.items plan.cuts.items plan.takes_skipped_name plan.script.items
+    c.in_ok-plan.ensures.planned (rw (c.in_ok-plan.ensures.again_kept) at c.in_err-edited.ensures.remarked)
 
 pub returns-clause-remarked : goal.returns-clause-remarked
 returns-clause-remarked g c =
     let plan = c.in_ok-plan.plan in
     remarks_of_plan c.args.depth _ _ _ (declarations_of plan.declared.items) plan.skipped (contents plan.first)
-    plan.origins.items plan.cuts.items plan.takes_skipped_name plan.script.items c.in_ok-plan.ensures.planned
-    c.in_ok-edited.ensures.remarked
+    plan.streamed.items plan.origins.items plan.cuts.items plan.takes_skipped_name plan.script.items
+    c.in_ok-plan.ensures.planned (rw (c.in_ok-plan.ensures.again_kept) at c.in_ok-edited.ensures.remarked)

@@ -1,72 +1,29 @@
--- Lines that are carried out on a session without changes: what they make of the notes, and what
--- they ask for.
-use Rattle.std.specs.Prelude.{◌≡◌, ℕ, true, Bool, if◌then◌else◌, List, [], ◌∷◌, ◌++◌, slice_set}
-use Rattle.std.specs.Prelude.{Result}
-use Rattle.vcd_journal.specs.Machine.{Machine}
+-- Lines that are carried out on a session without changes: what they make of the notes and of the
+-- plan.
+use Rattle.std.specs.Prelude.{◌≡◌, ℕ, ◌+◌, if◌then◌else◌, List, [], ◌∷◌}
 use Rattle.vcd_script.specs.ScriptCommands.{command_of_line}
 use Rattle.vcd_script.specs.SessionLines.{machine_after_line, is_refused_on}
-use Rattle.vcd_hollow.specs.HollowRun.{waves_asked, origins_at}
-use Rattle.vcd_script.specs.declared.script.command.Command.{Command}
-use Rattle.vcd_script.specs.declared.script.line_error.LineError.{LineError}
-use Rattle.vcd_amend_run.specs.EditsInForce.{EditLines, no_lines, lines_after_command}
-use Rattle.vcd_amend_run.specs.inside.dry_running.OriginHistory.{OriginNotes, notes_after_command}
-use Rattle.vcd_amend_run.specs.inside.dry_running.OriginHistory.{notes_before_edits}
+use Rattle.vcd_amend_run.specs.inside.dry_running.HistoryNotes.{noted_after_command}
+use Rattle.vcd_amend_run.specs.inside.dry_running.LinePlan.{PlanNotes, TakesLine}
+use Rattle.vcd_amend_run.specs.inside.dry_running.LinePlan.{planned_after_command}
+use Rattle.vcd_amend_run.specs.declared.dry_running.DryState.{DryState}
 
--- the marks of signals, with these marked too
-abbrev pub marked : List Bool → List ℕ → List Bool
-marked marks [] = marks
-marked marks (k ∷ ks) = marked (slice_set marks k true) ks
+-- what the line of this number changes
+pub record HearsLine (skipped number : ℕ) (line : List ℕ) (old new : DryState) : Type 0 where
+  pub machine : machine_after_line old.session line ≡ new.session
+  pub notes : (if is_refused_on skipped line old.session then old.history
+      else noted_after_command old.history line (command_of_line old.session.now line))
+      ≡ new.history
+  -- the plan before the line is answered
+  pub taken : PlanNotes
+  pub takes : TakesLine number old.history.notes (command_of_line old.session.now line) old.plan
+      taken
+  pub plan : (if is_refused_on skipped line old.session then taken
+      else planned_after_command taken old.history.notes.origins
+      (command_of_line old.session.now line)) ≡ new.plan
 
--- ---- what is remembered
-
--- the notes of the edits, and their lines
-pub record HistoryNotes : Type 0 where
-  pub notes : OriginNotes
-  pub lines : EditLines
-
--- before the first line, on a capture with so many signals
-abbrev pub noted_before_lines : (count : ℕ) → HistoryNotes
-noted_before_lines count = record { notes = notes_before_edits count; lines = no_lines }
-
--- after a line that asks for this and is not refused
-abbrev pub noted_after_command : HistoryNotes → (line : List ℕ) → Result Command LineError
-    → HistoryNotes
-noted_after_command n line asked = record {
-  notes = notes_after_command n.notes asked;
-  lines = lines_after_command n.lines line asked;
-}
-
--- ---- one line
-
--- the origins of the signals whose changes a line asks for
-abbrev pub origins_heard : HistoryNotes → Machine → List ℕ → List ℕ
-origins_heard n m line = origins_at n.notes.origins (waves_asked (command_of_line m.now line))
-
--- the notes after a line
-abbrev pub notes_after_line : (skipped : ℕ) → HistoryNotes → Machine → List ℕ → HistoryNotes
-notes_after_line skipped n m line = if is_refused_on skipped line m then n
-    else noted_after_command n line (command_of_line m.now line)
-
--- the line changes the machine, the notes and the marks of heard signals
-pub record HearsLine (skipped : ℕ) (line : List ℕ) (old new : Machine) (before after : HistoryNotes)
-    (marks all : List Bool) : Type 0 where
-  pub machine : machine_after_line old line ≡ new
-  pub notes : notes_after_line skipped before old line ≡ after
-  pub heard : marked marks (origins_heard before old line) ≡ all
-
--- ---- lines, one after another
-
--- the notes after lines
-unfoldable pub notes_after_lines : (skipped : ℕ) → HistoryNotes → Machine → List (List ℕ)
-    → HistoryNotes
-notes_after_lines skipped n m [] = n
-notes_after_lines skipped n m (line ∷ lines) =
-    notes_after_lines skipped (notes_after_line skipped n m line) (machine_after_line m line) lines
-
--- the origins of the signals whose changes lines ask for
-unfoldable pub origins_heard_in : (skipped : ℕ) → HistoryNotes → Machine → List (List ℕ) → List ℕ
-origins_heard_in skipped n m [] = []
-origins_heard_in skipped n m (line ∷ lines) =
-    origins_heard n m line
-    ++ origins_heard_in skipped (notes_after_line skipped n m line) (machine_after_line m line)
-    lines
+-- what lines change, one after another, of which the first has this number
+unfoldable pub HearLines : (skipped number : ℕ) → List (List ℕ) → (old new : DryState) → Type 0
+HearLines skipped number [] old new = old ≡ new
+HearLines skipped number (line ∷ lines) old new = (between : DryState)
+    × HearsLine skipped number line old between × HearLines skipped (number + 1) lines between new

@@ -1,7 +1,7 @@
 -- The origins of the signals of a capture under edit, as they are kept over undo and redo.
 use Rattle.std.specs.Prelude.{ℕ, nat_lt, nat_le, if◌then◌else◌, List, [], ◌∷◌, ◌++◌, length}
-use Rattle.std.specs.Prelude.{Option, Some, None, Result, Ok}
-use Rattle.std.specs.List.{remove, insert, slice_get, range_with_len}
+use Rattle.std.specs.Prelude.{reverse, Option, Some, None, Result, Ok}
+use Rattle.std.specs.List.{remove, insert, slice_get, range_with_len, filter_map}
 use Rattle.vcd_edit.specs.declared.edit.Edit.{Edit}
 use Rattle.vcd_edit.specs.declared.edit.Edit.TheVariants.{Remove, Cut}
 use Rattle.vcd_journal.specs.declared.step.Step.{Step}
@@ -37,6 +37,10 @@ note_of origins e = notes.Other
 abbrev pub cut_of_note : EditNote → Option CutTicks
 cut_of_note (notes.Cut ticks) = Some ticks
 cut_of_note note = None
+
+-- the ticks of the cuts in force, the oldest first
+abbrev pub cuts_noted : OriginNotes → List CutTicks
+cuts_noted n = filter_map cut_of_note (reverse n.in_force)
 
 -- the ticks that the cuts among edits take out, the oldest cut first
 unfoldable pub ticks_of_cuts : List Edit → List CutTicks

@@ -1,5 +1,5 @@
 -- What is found by a `deglitch`, run by run.
-use Rattle.std.specs.Prelude.{ℕ, ◌≤◌, ◌-◌, ◌==◌, ◌&&◌, nat_lt, nat_le, not, if◌then◌else◌, Option}
+use Rattle.std.specs.Prelude.{ℕ, ◌-◌, ◌==◌, ◌&&◌, nat_lt, nat_le, not, if◌then◌else◌, Option}
 use Rattle.std.specs.Prelude.{Some, None, List, [], ◌∷◌}
 use Rattle.vcd_core.specs.declared.bit.Bit.{Bit}
 use Rattle.vcd_core.specs.declared.wave.Change.{Change}
@@ -94,8 +94,3 @@ findings_of found = finding_of_kind kinds.PulsesRemoved found.pulses
     ∷ finding_of_kind kinds.BrokenStretches found.stretches
     ∷ finding_of_kind kinds.LateEdges found.late_edges
     ∷ finding_of_kind kinds.ShortRunsKept found.short_runs ∷ []
-
--- at most so many were found of each kind
-abbrev pub AreFew : ℕ → FoundRuns → Type 0
-AreFew n found = (found.pulses.ticks.count ≤ n) × (found.stretches.ticks.count ≤ n)
-    × (found.late_edges.ticks.count ≤ n) × (found.short_runs.ticks.count ≤ n)

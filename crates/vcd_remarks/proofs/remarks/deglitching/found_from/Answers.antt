@@ -1,10 +1,9 @@
-use Rattle.std.proofs.Common.{◌+◌, ◌-◌, drop, ap, sym, subst, ◌∙◌, arith}
+use Rattle.std.proofs.Common.{◌+◌, ◌-◌, drop, ap, sym, ◌∙◌, arith}
 use Rattle.std.proofs.lemmas.List.{take_rest}
 use Rattle.vcd_remarks.specs.ValueRuns.{tick_before, runs_begun}
-use Rattle.vcd_remarks.specs.inside.remarks.Deglitching.{with_runs, with_pulse, with_kept, AreFew}
-use Rattle.vcd_remarks.specs.inside.remarks.Deglitching.{found_first, first_run}
-use Rattle.vcd_remarks.proofs.remarks.RunsOfDeglitch.{few_with_pulse, few_with_kept, pulse_passed, run_passed}
-use Rattle.vcd_remarks.proofs.remarks.RunsOfDeglitch.{few_first, no_more_runs}
+use Rattle.vcd_remarks.specs.inside.remarks.Deglitching.{with_runs, with_pulse, with_kept}
+use Rattle.vcd_remarks.specs.inside.remarks.Deglitching.{found_first}
+use Rattle.vcd_remarks.proofs.remarks.RunsOfDeglitch.{pulse_passed, run_passed, no_more_runs}
 use Rattle.vcd_remarks.proofs.remarks.deglitching.found_from.Goals as goal
 
 pub loop-i-init : goal.loop-i-init
@@ -13,12 +12,8 @@ loop-i-init c =
     let is = c.found_first-found.ensures first
     ∙ (λ i. found_first c.args.rule.ticks
     (record { first = 0; last = c.tick_before-kept.ensures i; value = first })) in
-    record {
-      few = subst (AreFew 1) (sym is) (few_first c.args.rule.ticks
-          (first_run c.args.rule.end first c.args.changes.now));
-      found = λ i. with_runs c.args.rule.ticks c.args.rule.end (c.tick_before-kept.ensures i) first (is i)
-          (runs_begun c.args.rule.end c.args.changes.now);
-    }
+    λ i. with_runs c.args.rule.ticks c.args.rule.end (c.tick_before-kept.ensures i) first (is i)
+    (runs_begun c.args.rule.end c.args.changes.now)
 
 pub loop-i-preserved-then-is_pulse : goal.loop-i-preserved-then-is_pulse
 loop-i-preserved-then-is_pulse c =
@@ -30,14 +25,10 @@ loop-i-preserved-then-is_pulse c =
     let left = runs_begun rule.end (drop (l.i + 1) cs) in
     let ends = c.tick_before-last.ensures ∙ ap (tick_before rule.end) (take_rest cs (l.i + 1)) in
     let is = c.with_pulse-found.ensures ∙ ap (with_pulse l.found) (c.short_span-short.ensures d.value) in
-    record {
-      few = subst (AreFew (l.i + 1 + 1)) (sym c.with_pulse-found.ensures)
-          (few_with_pulse (l.i + 1) l.found c.short_span-short.result l.invariant.few);
-      found = (λ i. with_runs rule.ticks rule.end l.kept l.before.now (is i) left)
-          ∙ sym (pulse_passed rule.ticks rule.end cs l.i d c.loop-i-test.true c.index-changes-i.is until ends l.kept
-          l.before.now l.found (sym (c.is_pulse.ensures d.value) ∙ c.if-is_pulse.true))
-          ∙ l.invariant.found;
-    }
+    (λ i. with_runs rule.ticks rule.end l.kept l.before.now (is i) left)
+    ∙ sym (pulse_passed rule.ticks rule.end cs l.i d c.loop-i-test.true c.index-changes-i.is until ends l.kept
+    l.before.now l.found (sym (c.is_pulse.ensures d.value) ∙ c.if-is_pulse.true))
+    ∙ l.invariant
 
 pub loop-i-preserved : goal.loop-i-preserved
 loop-i-preserved c =
@@ -56,17 +47,13 @@ loop-i-preserved c =
       is_same = c.eq.ensures i;
       short = c.short_span-short.ensures d.value i;
     })) in
-    record {
-      few = subst (AreFew (l.i + 1 + 1)) (sym c.with_kept-found.ensures)
-          (few_with_kept (l.i + 1) rule.ticks l.found _ l.invariant.few);
-      found = (λ i. with_runs rule.ticks rule.end until d.value (is i) left)
-          ∙ sym (run_passed rule.ticks rule.end cs l.i d c.loop-i-test.true c.index-changes-i.is until ends l.kept
-          l.before.now l.found (sym (c.is_pulse.ensures d.value) ∙ c.if-is_pulse.false))
-          ∙ l.invariant.found;
-    }
+    (λ i. with_runs rule.ticks rule.end until d.value (is i) left)
+    ∙ sym (run_passed rule.ticks rule.end cs l.i d c.loop-i-test.true c.index-changes-i.is until ends l.kept
+    l.before.now l.found (sym (c.is_pulse.ensures d.value) ∙ c.if-is_pulse.false))
+    ∙ l.invariant
 
 pub returns : goal.returns
 returns c =
     sym (no_more_runs c.args.rule.ticks c.args.rule.end c.args.changes.now c.loop-i.i (omega arith) c.loop-i.kept
     c.loop-i.before.now c.loop-i.found)
-    ∙ c.loop-i.invariant.found
+    ∙ c.loop-i.invariant

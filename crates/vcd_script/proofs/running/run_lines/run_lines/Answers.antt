@@ -1,16 +1,14 @@
 -- The replies so far, with that of one more line, or with none where the lines end.
-use Rattle.std.proofs.Common.{arith, rules, refl}
+use Rattle.std.proofs.Common.{arith, rules}
 use Rattle.std.proofs.KnownBytes.{Appends-kept}
 use Rattle.std.proofs.lemmas.Result.{IfOk-weaker}
 use Rattle.vcd_script.proofs.shared.PartsOfRun.{at_error}
 use Rattle.vcd_script.proofs.shared.LinesLeft.{reply_more, none_left, no_lines, line_stops, flush_stops}
-use Rattle.vcd_script.proofs.shared.ObservedLines.{none_shown, shown_more, shown_first}
 use Rattle.vcd_script.proofs.running.run_lines.run_lines.Goals as goal
 
 pub loop-line-init : goal.loop-line-init
 loop-line-init g c = record {
   replied = search rules;
-  shown = none_shown g.O.LineObserver.sees _ _ _;
   ready = search rules;
   number = search rules;
   refused = search rules;
@@ -23,8 +21,6 @@ loop-line-preserved g c =
       replied = reply_more c.loop-line.invariant.replied c.in-Some.ensures.0 c.answer_line-answer.new.session
           c.in_ok-reply.reply c.from-refused.result c.len.result (g.P.Sink.taken c.write_answer.new.replies) answers
           c.in_ok-reply.ensures.written (search rules) (search rules);
-      shown = shown_more c.loop-line.invariant.shown c.in-Some.ensures.0 c.answer_line-answer.new.session
-          c.observe.new.self (rw c.capture.ensures.now at c.observe.ensures) answers.0;
       ready = c.in_ok-reply.ensures.not_failed;
       number = omega (arith, c.in-Some.ensures.1);
       refused = search rules;
@@ -49,14 +45,3 @@ pub returns-in-Err-clause-stopped : goal.returns-in-Err-clause-stopped
 returns-in-Err-clause-stopped g c =
     flush_stops c.loop-line.invariant.replied (no_lines c.loop-line.rest.now c.in_default.ensures)
     (g.P.Sink.taken c.flush.new.self) c.in-Err.ensures.bytes
-
-pub returns-in_err-reply-clause-observed : goal.returns-in_err-reply-clause-observed
-returns-in_err-reply-clause-observed g c =
-    shown_first (shown_more c.loop-line.invariant.shown c.in-Some.ensures.0 _ c.observe.new.self
-    (rw c.capture.ensures.now at c.observe.ensures) refl)
-
-pub returns-in-Ok-clause-observed : goal.returns-in-Ok-clause-observed
-returns-in-Ok-clause-observed g c = shown_first c.loop-line.invariant.shown
-
-pub returns-in-Err-clause-observed : goal.returns-in-Err-clause-observed
-returns-in-Err-clause-observed g c = shown_first c.loop-line.invariant.shown

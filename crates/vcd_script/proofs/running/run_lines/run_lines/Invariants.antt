@@ -1,17 +1,14 @@
 use Rattle.std.proofs.Common.{◌≡◌, ◌+◌, ◌*◌, ◌^◌, ◌≤◌, false, length}
 use Rattle.vcd_script.specs.Script.{script_lines}
 use Rattle.vcd_script.proofs.shared.LinesLeft.{RepliesSoFar}
-use Rattle.vcd_script.proofs.shared.ObservedLines.{ShownSoFar}
 use Rattle.vcd_script.proofs.running.run_lines.run_lines.Given as goal
 
 abbrev pub invariant-loop-line : goal.invariant-loop-line
 invariant-loop-line g l = record {
-  replied : RepliesSoFar l.input.skipped (script_lines l.input.script.now) l.fn.session l.number
+  replied : RepliesSoFar l.skipped (script_lines l.script) l.fn.session l.number
       (script_lines l.rest) l.session l.refused l.written (g.P.Sink.taken l.fn.replies) (g.P.Sink.taken l.replies);
-  shown : ShownSoFar g.O.LineObserver.sees (script_lines l.input.script.now) l.fn.session l.number
-      (script_lines l.rest) l.session l.fn.observer l.observer;
   ready : g.P.Sink.has_failed l.replies ≡ false;
-  number : l.number + length l.rest ≤ length l.input.script.now;
+  number : l.number + length l.rest ≤ length l.script;
   refused : l.refused ≤ l.number;
   written : l.written ≤ l.number * 2 ^ 64;
 }

@@ -1,0 +1,2 @@
+-- Lemmas of `edge_maker`.
+pub mod ChangesInTurn

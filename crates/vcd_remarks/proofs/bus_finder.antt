@@ -1,0 +1,2 @@
+-- Lemmas of `bus_finder`.
+pub mod BusLeft

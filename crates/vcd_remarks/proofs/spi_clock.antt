@@ -1,0 +1,2 @@
+-- Lemmas of `spi_clock`.
+pub mod ClockLeft

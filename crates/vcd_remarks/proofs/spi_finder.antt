@@ -1,0 +1,3 @@
+-- Lemmas of `spi_finder`.
+pub mod SpiLeft
+pub mod FindingsInTurn

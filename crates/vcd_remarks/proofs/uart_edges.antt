@@ -1,2 +1,0 @@
--- Lemmas of `uart_edges`.
-pub mod EdgesLeft

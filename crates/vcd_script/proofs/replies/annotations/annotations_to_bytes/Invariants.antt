@@ -1,9 +1,0 @@
--- The text so far and the annotations left make the whole text.
-use Rattle.std.proofs.Common.{◌≡◌, ◌++◌, drop}
-use Rattle.vcd_script.specs.inside.replies.Annotations.{annotations_text}
-use Rattle.vcd_script.proofs.replies.annotations.annotations_to_bytes.Given as goal
-
-abbrev pub invariant-loop-annotation : goal.invariant-loop-annotation
-invariant-loop-annotation l =
-    l.text.items ++ annotations_text l.decoder l.digits (drop l.annotation-index l.annotations)
-    ≡ annotations_text l.decoder l.digits l.annotations
