@@ -1,6 +1,6 @@
 -- What there is to say of an output beyond the replies: of variables that share a code, which
 -- differ or are removed alone, and which events cuts leave out. The project's own.
-use Rattle.std.specs.Prelude.{◌≡◌, ℕ, Bool, true, false, not, ◌-◌, ◌==◌, ◌&&◌, List, []}
+use Rattle.std.specs.Prelude.{◌≡◌, ℕ, Bool, false, not, ◌-◌, ◌==◌, ◌&&◌, List, []}
 use Rattle.std.specs.Prelude.{if◌then◌else◌, ◌⊎◌, Option, Some, None}
 use Rattle.std.specs.Prelude.{◌∷◌, ◌++◌, map, take, length, is_some, bytes_eq, codes, All}
 use Rattle.std.specs.List.{filter, list_any, join_by}

@@ -1,7 +1,7 @@
 -- How a run ends, at each place where it can.
-use Rattle.std.proofs.Common.{◌≡◌, ◌≢◌, inl, inr, Result, Ok, Err, ℕ, zero, suc, List, Option, Some}
+use Rattle.std.proofs.Common.{◌≡◌, ◌≢◌, inl, inr, Result, Ok, Err, ℕ, zero, suc, List, Some}
 use Rattle.std.proofs.Common.{None}
-use Rattle.std.proofs.Common.{refl, sym, subst, ap, ◌∙◌, ◌-◌, ◌<◌, ◌++◌, Bool, true, false, length, arith}
+use Rattle.std.proofs.Common.{refl, sym, subst, ap, ◌∙◌, ◌-◌, Bool, true, false, length, arith}
 use Rattle.std.specs.Prelude.{IfSome, IfErr, IsErrAnd, take, ◌≤◌}
 use Rattle.std.specs.List.{concat}
 use Rattle.std.proofs.lemmas.Bool.{false≢true}
@@ -9,7 +9,7 @@ use Rattle.std.specs.Io.KnownBytes.{Appends}
 use Rattle.vcd_core.specs.declared.capture.TheConstants.{SIGNAL_LIMIT}
 use Rattle.vcd_core.specs.Contents.{Contents}
 use Rattle.vcd_core.specs.Outline.{outline}
-use Rattle.vcd_core.specs.Devices.{DeviceEnd, IsUntouched, HasPrefix, HasText}
+use Rattle.vcd_core.specs.Devices.{DeviceEnd, IsUntouched, HasText}
 use Rattle.vcd_text.specs.Words.{words_of}
 use Rattle.vcd_text.specs.Grammar.{ParseState, VariableDeclaration, Accepts}
 use Rattle.vcd_amend.specs.DeclaredVariables.{HaveSizesOf}

@@ -1,9 +1,8 @@
 -- What is known of a run before its first reply.
-use Rattle.std.proofs.Common.{◌≡◌, ℕ, zero, suc, List, [], ◌∷◌, ◌++◌, Option, Some}
-use Rattle.std.proofs.Common.{None}
-use Rattle.std.proofs.Common.{refl, sym, subst, ap, ap₂, ◌∙◌, ◌<◌, Bool, true, false, map, length, arith}
-use Rattle.std.specs.Prelude.{All, IfSome, nat_eq, slice_index_or, count_by, ◌≤◌, ◌+◌}
-use Rattle.std.proofs.lemmas.List.{append_assoc, length-map}
+use Rattle.std.proofs.Common.{◌≡◌, ℕ, List, [], ◌∷◌, Option, Some}
+use Rattle.std.proofs.Common.{refl, sym, subst, ap, ap₂, ◌∙◌, Bool, false, map, length}
+use Rattle.std.specs.Prelude.{All, IfSome, count_by, ◌≤◌}
+use Rattle.std.proofs.lemmas.List.{length-map}
 use Rattle.vcd_core.specs.declared.capture.TheConstants.{SIGNAL_LIMIT}
 use Rattle.vcd_core.specs.Contents.{Contents, SignalContents}
 use Rattle.vcd_core.specs.Outline.{without_changes, outline}

@@ -1,5 +1,5 @@
 -- What is read of a file, where some names are heard.
-use Rattle.std.specs.Prelude.{◌≡◌, ℕ, Bool, List, map}
+use Rattle.std.specs.Prelude.{◌≡◌, ℕ, Bool, List}
 use Rattle.vcd_core.specs.Contents.{Contents, SignalContents}
 use Rattle.vcd_core.specs.Outline.{outline}
 use Rattle.vcd_text.specs.Words.{words_of}

@@ -1,17 +1,15 @@
-use Rattle.std.proofs.Common.{◌≡◌, ◌≤◌, ◌-◌, ℕ, List, map, min, refl, sym, ap, subst, ◌∙◌, arith}
+use Rattle.std.proofs.Common.{◌≡◌, ◌≤◌, List, map, refl, sym, ap, subst, ◌∙◌, arith}
 use Rattle.std.proofs.lemmas.Bool.{and_parts}
 use Rattle.std.proofs.lemmas.List.Elements.{All-nil}
-use Rattle.vcd_core.specs.declared.capture.TheConstants.{END_LIMIT}
 use Rattle.vcd_core.specs.CaptureContents.{contents, signal_contents}
 use Rattle.vcd_core.specs.Contents.{Contents, SignalContents}
-use Rattle.vcd_core.specs.Outline.{without_changes, outline}
+use Rattle.vcd_core.specs.Outline.{without_changes}
 use Rattle.vcd_text.specs.Words.{words_of}
 use Rattle.vcd_text.specs.Grammar.{ValueChange, initial_state, kept_variables}
 use Rattle.vcd_text.specs.Meaning.{FileMeans, meaning, declared_signal}
 use Rattle.vcd_text.specs.Parts.{part_of}
 use Rattle.vcd_text.specs.inside.reading.OpenItems.{is_nothing}
 use Rattle.vcd_text.specs.inside.reading.Part.{seen_state, seen_tick, remaining, LeavesOut, all_ticks}
-use Rattle.vcd_text.specs.inside.reading.Parser.{HasTakenWords}
 use Rattle.vcd_text.proofs.shared.NoWordLeft.{accepts}
 use Rattle.vcd_text.proofs.shared.SoundMeaning.{IsSoundBut}
 use Rattle.vcd_text.proofs.part.WholeParts.{file_is_sound}
