@@ -2,10 +2,11 @@
 
 ghost use Rattle.std.specs.Prelude.{◌≡◌, ◌||◌, ℕ, false, true, Ok, IfErr, OnOk};
 ghost use Rattle.vcd_devices.specs.Sums.{HasSum};
-ghost use Rattle.vcd_amend_program.specs.ProgramEnds.{IsCaptureFault};
+ghost use Rattle.vcd_amend_program.specs.ProgramEnds.{IsCaptureFault, not_read};
 ghost use Rattle.vcd_amend_program.specs.Sums.{HaveSum, HaveOtherSum};
 ghost use Rattle.vcd_amend_program.specs.declared.amend_error.AmendError.TheVariants as
     amend_errors;
+ghost use Rattle.vcd_amend_program.specs.declared.again.Readings.TheVariants as readings;
 ghost use Rattle.vcd_amend_run.specs.declared.running.AmendRunError.TheVariants as run_errors;
 
 use crate::amend_error::{AmendError, NOT_READ};
@@ -97,6 +98,7 @@ impl<A> SummedAgain<A> {
         ensures fault { IfErr result IsCaptureFault }
         ensures changed { IfErr result (λ e. e ≡ amend_errors.Run run_errors.CaptureChanged →
             HaveOtherSum sum self.now.readings) }
+        ensures unread { IfErr result (λ e. e ≡ not_read → self.now.readings ≡ readings.Unread) }
     {
         match self.readings {
             Readings::NoneBegun => Ok(()),

@@ -4,7 +4,8 @@
 //! script. It holds only the changes that lines of the script ask for: `vcd_amend` gives what the
 //! file declares, [`read_hollow`] its capture with the changes that are expected to be asked for,
 //! [`dry_run`] which changes lines ask for, and [`read_heard`] those that were not expected. A line
-//! that decodes what no edit in force reads holds none: the file is read once more for it.
+//! that decodes what no accepted edit before it reads, undone or not, holds none: the file is read
+//! once more for it.
 //! [`amend_on_bytes`] is `amend_run` with bytes in memory:
 //!
 //! ```rust

@@ -200,14 +200,13 @@ impl From<CopyError> for AmendRunError {
 /// The file is read twice, and its declarations once before: with the changes that the script is
 /// expected to ask for, and then for the copy. If it asks for others, the file is read again for
 /// all that it asks for. Only these changes are held, and while a signal is edited its changes
-/// before and after. A line that decodes signals which no edit in force reads holds none: for each
-/// such line the file is read once more.
+/// before and after. A line that decodes signals which no accepted edit before it reads, undone or
+/// not, holds none: for each such line the file is read once more.
 ///
 /// Before the reply to a line, or after one that is decoded while the file is read, it writes the
-/// remarks on it, and before the copy, or if edits are in
-/// force without an output, those on the output. If either runs out of memory, or the writer of the
-/// remarks fails, the run goes on without the other remarks. A writer that has failed costs
-/// nothing.
+/// remarks on it, and before the copy, or if edits are in force without an output, those on the
+/// output. If either runs out of memory, or the writer of the remarks fails, the run goes on
+/// without the other remarks. A writer that has failed costs nothing.
 // seven parameters: only of a `&mut` of its own can a clause say what each device has taken
 pub fn amend_run<R: Source, O: Reopen<R>, S: Source, P: Sink, Q: Sink, W: Sink>(
     alloc: Global,

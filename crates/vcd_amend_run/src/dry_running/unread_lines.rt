@@ -1,6 +1,6 @@
 //! The lines of a decoder whose signals no edit read.
 
-ghost use Rattle.std.specs.Prelude.{◌≡◌, Some, false, IfSome, length};
+ghost use Rattle.std.specs.Prelude.{◌≡◌, Some, None, [], false, IfSome, length};
 ghost use Rattle.std.specs.List.{slice_get};
 ghost use Rattle.std.specs.Option.{option_map};
 ghost use Rattle.vcd_remarks.specs.DecoderLines as spec;
@@ -12,6 +12,7 @@ use vcd_script::Command;
 pub fn decoder_lines(command: &Command) -> Option<[Option<usize>; 4]>
     ensures lines { IfSome result (λ lines. spec.decoder_lines command.now ≡ lines) }
     ensures four { IfSome result (λ lines. length (spec.decoder_lines command.now) ≡ 4) }
+    ensures none { result ≡ None → spec.decoder_lines command.now ≡ [] }
 {
     match command {
         Command::Uart { signal, .. } => Some([Some(*signal), None, None, None]),
