@@ -201,7 +201,7 @@ impl From<CopyError> for AmendRunError {
 /// expected to ask for, and then for the copy. If it asks for others, the file is read again for
 /// all that it asks for. Only these changes are held, and while a signal is edited its changes
 /// before and after. A line that decodes signals which no accepted edit before it reads, undone or
-/// not, holds none: for each such line the file is read once more.
+/// not, holds none, for UART those within a frame: for each such line the file is read once more.
 ///
 /// Before the reply to a line, or after one that is decoded while the file is read, it writes the
 /// remarks on it, and before the copy, or if edits are in force without an output, those on the
