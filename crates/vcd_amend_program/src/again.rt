@@ -1,6 +1,6 @@
 //! The capture as it is opened once more, for each line that is decoded while it is read.
 
-ghost use Rattle.std.specs.Prelude.{◌≡◌, ◌||◌, ℕ, false, true, Ok, IfErr, OnOk};
+ghost use Rattle.std.specs.Prelude.{◌≡◌, ◌≢◌, ◌||◌, ℕ, false, true, Ok, IfErr, OnOk};
 ghost use Rattle.vcd_devices.specs.Sums.{HasSum};
 ghost use Rattle.vcd_amend_program.specs.ProgramEnds.{IsCaptureFault, not_read};
 ghost use Rattle.vcd_amend_program.specs.Sums.{HaveSum, HaveOtherSum};
@@ -156,6 +156,8 @@ impl Readings {
         ensures before { (sum : ℕ) → HaveSum sum result → HaveSum sum self }
         ensures one_more { (sum : ℕ) → HaveSum sum result → found ≡ Ok sum }
         ensures both { (sum : ℕ) → HaveSum sum self → found ≡ Ok sum → HaveSum sum result }
+        ensures two { (first second : ℕ) → self ≡ readings.OneSum first → found ≡ Ok second
+            → first ≢ second → result ≡ readings.TwoSums }
     {
         match (self, found) {
             (Readings::NoneBegun, Ok(sum)) => Readings::OneSum(sum),
