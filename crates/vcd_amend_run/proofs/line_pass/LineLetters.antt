@@ -1,5 +1,5 @@
 -- The letters that the changes of lines give, which are those of their signals after cuts.
-use Rattle.std.proofs.Common.{◌≡◌, ◌<◌, ℕ, zero, suc, ◌+◌, ◌-◌, Bool, true, false, ◌&&◌, ◌==◌, if◌then◌else◌, nat_le}
+use Rattle.std.proofs.Common.{◌≡◌, ◌≢◌, ◌<◌, ℕ, zero, suc, ◌+◌, ◌-◌, Bool, true, false, ◌&&◌, ◌==◌, if◌then◌else◌, nat_le}
 use Rattle.std.proofs.Common.{List, [], ◌∷◌, ◌++◌, length, replicate, map, filter, refl, sym, ap, ◌∙◌, arith, inl, inr}
 use Rattle.std.proofs.Common.{Option, Some, eq-eqb}
 use Rattle.std.specs.Prelude.{slice_get}
@@ -34,22 +34,13 @@ lowest_letter (b ∷ s) =
 
 module _ (cuts : List CutTicks) (h : HeardChange) (t : ℕ) where
   -- the changes of other lines change nothing
-  of_other_line : (before : Bit) (line from : ℕ) (first : Option ℕ) → line < from
+  of_other_line : (before : Bit) (line from : ℕ) (first : Option ℕ) → from ≢ line
       → letter_from before line (changes_of_line cuts first from h) t ≡ before
   unfolding letter_from
-  of_other_line before line from first less =
+  of_other_line before line from first other =
       elim (cases_Bool (is_of_line first h.target)) [
-        | inl own ↦ rw own (rw (ne_eqb from line (λ e. omega (arith, e, less))) refl)
-        | inr other ↦ rw other refl
-      ]
-
-  after_other_line : (before : Bit) (line from : ℕ) (first : Option ℕ) → from < line
-      → letter_from before line (changes_of_line cuts first from h) t ≡ before
-  unfolding letter_from
-  after_other_line before line from first less =
-      elim (cases_Bool (is_of_line first h.target)) [
-        | inl own ↦ rw own (rw (ne_eqb from line (λ e. omega (arith, e, less))) refl)
-        | inr other ↦ rw other refl
+        | inl own ↦ rw own (rw (ne_eqb from line other) refl)
+        | inr none ↦ rw none refl
       ]
 
   of_later_lines : (before : Bit) (line from : ℕ) (firsts : List (Option ℕ)) → line < from
@@ -59,7 +50,7 @@ module _ (cuts : List CutTicks) (h : HeardChange) (t : ℕ) where
   of_later_lines before line from (first ∷ firsts) less =
       letter_from_both before line (changes_of_line cuts first from h) (changes_of_lines cuts firsts (from + 1) h) t
       ∙ ap (λ b. letter_from b line (changes_of_lines cuts firsts (from + 1) h) t)
-      (of_other_line before line from first less)
+      (of_other_line before line from first (λ e. omega (arith, e, less)))
       ∙ of_later_lines before line (from + 1) firsts (omega (arith, less))
 
   -- the letter of a line after a change, by its first variable
@@ -90,7 +81,7 @@ module _ (cuts : List CutTicks) (h : HeardChange) (t : ℕ) where
   of_lines before line from (suc j) p (first ∷ firsts) is at =
       letter_from_both before line (changes_of_line cuts first from h) (changes_of_lines cuts firsts (from + 1) h) t
       ∙ ap (λ b. letter_from b line (changes_of_lines cuts firsts (from + 1) h) t)
-      (after_other_line before line from first (omega (arith, is)))
+      (of_other_line before line from first (λ e. omega (arith, e, is)))
       ∙ of_lines before line (from + 1) j p firsts (omega (arith, is)) at
 
 -- ---- all of them
