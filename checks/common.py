@@ -32,6 +32,9 @@ HELD = tempfile.TemporaryDirectory(prefix="vcdedit-check-")
 os.environ["TMPDIR"] = HELD.name
 # The outcome of what this machine can't check.
 SKIPPED = object()
+MEASURED = """import resource, subprocess, sys
+status = subprocess.run(["sh", "-c", '"$@" > /dev/null; exit $?', "sh", *sys.argv[1:]]).returncode
+print(status, resource.getrusage(resource.RUSAGE_CHILDREN).ru_maxrss * 1024)"""
 
 
 def load(*path):
@@ -98,6 +101,12 @@ def run(words, text=True, timeout=SECONDS, **how):
         told = "took more than %d seconds" % timeout
         return 124, *(("", told) if text else (b"", told.encode()))
     return done.returncode, done.stdout, done.stderr
+
+
+def measured(words):
+    """(status, the most memory in bytes) of a program. A shell starts it, so that this process does not count."""
+    words = [sys.executable, "-S", "-c", MEASURED, *words]
+    return tuple(map(int, run(words, env={**os.environ, "GLIBC_TUNABLES": ""})[1].split()))
 
 
 def same(name, found, wanted):

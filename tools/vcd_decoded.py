@@ -1,6 +1,7 @@
 """What vcdedit-view and vcdedit-table share: lines of a script, and what those that decode say of a capture."""
 
 import collections
+import itertools
 import re
 
 import vcd_files
@@ -21,17 +22,25 @@ ANNOTATION = re.compile(rb"(\d+)-(\d+) \w+ (.*)")
 Outcome = collections.namedtuple("Outcome", "edits first last decoded")
 
 
-class Decoded(collections.namedtuple("Decoded", "number line decoder said remarks is_edited")):
-    """What a line decoded: its number, the replies, remarks on it, and whether behind the lines these are others."""
+class Decoded(collections.namedtuple("Decoded", "number line decoder said remarks again")):
+    """What a line decoded: its number, the replies, remarks on it, and the replies to it behind all lines."""
 
     def annotations(self):
         for found in filter(None, map(ANNOTATION.fullmatch, self.said)):
             yield Annotation(int(found[1]), int(found[2]), shown(found[3]))
 
     def selections(self):
-        """The ticks at which CS becomes 0, or None without CS."""
-        levels = [reply.split() for reply in self.said if not ANNOTATION.fullmatch(reply)]
-        return [int(tick) for tick, level in levels if level == b"0"] if levels else None
+        """How often CS has become 0 up to the first tick of each annotation, or None without CS."""
+        levels, count = itertools.dropwhile(ANNOTATION.fullmatch, self.said), None
+        level = next(levels, None)
+        for one in self.annotations():
+            while level and int(level.split()[0]) <= one.first:
+                count, level = (count or 0) + level.endswith(b" 0"), next(levels, None)
+            yield count
+
+    def is_edited(self):
+        """Whether a later line edits what it decodes."""
+        return any(one != other for one, other in itertools.zip_longest(self.said, self.again))
 
 
 def options_of(parser, words):
@@ -52,7 +61,8 @@ def outcome_of(tool, options, source, words=()):
     above = dict.fromkeys(options.lines[: max(edits, default=0)])
     again = [line for line in above if vcd_runs.command_of(line) in vcd_runs.DECODERS]
     with vcd_runs.Run(source, [*options.lines, b"list", *again], words) as run:
-        first, replies, remarks = run.listing(), [[] for _ in run.lines], [[] for _ in run.lines]
+        # All are held, since none is shown if a later line is refused.
+        first, replies, remarks = run.listing(), [vcd_files.Spool() for _ in run.lines], [[] for _ in run.lines]
         for found, places in (run.replies, replies), (run.remarks, remarks):
             for place, text in found():
                 places[place].append(text)
@@ -63,16 +73,15 @@ def outcome_of(tool, options, source, words=()):
     for number, (line, command, said, remarked) in enumerate(zip(lines, commands, replies, remarks), 1):
         told += ["line %d: %s" % (number, text) for text in remarked + told_rate(line, said, first.timescale)]
         if command in vcd_runs.DECODERS:
-            is_edited = at_end.get(line, said) != said
-            decoded.append(Decoded(number, line, shown(command), said, remarked, is_edited))
+            decoded.append(Decoded(number, line, shown(command), said, remarked, at_end.get(line, said)))
     for text in [] if options.quiet else told + others:
         vcd_files.tell(tool, text)
-    return Outcome(edits, first, vcd_runs.listing_of(replies[len(lines)]), decoded)
+    return Outcome(edits, first, vcd_runs.listing_of([*replies[len(lines)]]), decoded)
 
 
 def want_no_refusal(tool, lines, replies, listing, source):
     """Ends if a line is refused, with what that means."""
-    found = [(number, vcd_runs.refusal_of(b"".join(said[:1]))) for number, said in enumerate(replies[: len(lines)], 1)]
+    found = enumerate((vcd_runs.refusal_of(next(iter(said), b"")) for said in replies[: len(lines)]), 1)
     told = told_refusals([(number, name) for number, name in found if name], lines, listing, source)
     if told and lines[1:] and not any(b" " in line for line in lines):
         told.append("quote each line: %s CAPTURE 'uart top.rx 100 8 none 1'" % tool)

@@ -1,4 +1,4 @@
-"""What the tools around vcdedit share: how they begin and end, captures, and scripts.
+"""What the tools around vcdedit share: how they begin and end, captures, scripts, and rows.
 
 Words, names and codes are bytes, as they stand in the file; `shown` makes text of them.
 """
@@ -31,9 +31,11 @@ import fractions
 import io
 import itertools
 import json
+import pickle
 import re
 import shutil
 import tempfile
+import threading
 
 # A stamp may begin with any number of zeros.
 getattr(sys, "set_int_max_str_digits", int)(0)
@@ -53,6 +55,8 @@ STAMP, DOLLAR = b"#$"
 TIMES = {b"shift": [2], b"cut": [1, 2], b"deglitch": [2], b"force": [2, 3], b"value": [2], b"uart": [2]}
 UNITED = re.compile(rb"([-+]?)(?:([0-9]{1,20}(?:\.[0-9]{1,15})?)([munpf]?s)|([1-9][0-9]{0,19})baud)")
 LINES_SHOWN = 10
+# How many rows a spool writes at a time, and a reading of them holds.
+ROWS_AT_ONCE = 256
 # The options for a part, as the program has them.
 PART = [
     ("--keep", "PATTERN", "keep only variables whose full names match"), ("--remove", "PATTERN", "leave these out"),
@@ -106,8 +110,50 @@ def counted(count, what):
 
 def shortened(rows, told=lambda row: [row]):
     """Lines about the first of some rows, and how many more there are."""
-    more = len(rows) - LINES_SHOWN
-    return [line for row in rows[:LINES_SHOWN] for line in told(row)] + ["and %d more" % more] * (more > 0)
+    rows = iter(rows)
+    lines = [line for row in itertools.islice(rows, LINES_SHOWN) for line in told(row)]
+    more = sum(1 for _ in rows)
+    return lines + ["and %d more" % more] * (more > 0)
+
+
+@contextlib.contextmanager
+def naming(place):
+    """Trouble with a file without a name is told of this place."""
+    try:
+        yield
+    except OSError as error:
+        error.filename = error.filename or place
+        raise
+
+
+class Spool:
+    """Rows, of which a file in TMPDIR holds all but the last few. They can be read again, and side by side."""
+
+    # All spools of a process share one file, which is memory while it is short.
+    file, lock = tempfile.SpooledTemporaryFile(CHUNK), threading.Lock()
+
+    def __init__(self):
+        self.places, self.last = [], []
+
+    def append(self, row):
+        self.last.append(row)
+        if len(self.last) == ROWS_AT_ONCE:
+            self.put_away()
+
+    def put_away(self):
+        with naming("TMPDIR"), self.lock:
+            self.file.seek(0, os.SEEK_END)
+            self.places.append(self.file.tell())
+            pickle.dump(self.last, self.file)
+        self.last = []
+
+    def __iter__(self):
+        for place in self.places:
+            with naming("TMPDIR"), self.lock:
+                self.file.seek(place)
+                rows = pickle.load(self.file)
+            yield from rows
+        yield from self.last
 
 
 def state_of(path):
@@ -225,23 +271,28 @@ def lines_of(options):
     return b"\n".join(texts).split(b"\n")
 
 
-def show_json(rows):
-    """Shows an array with a line for each object."""
-    print("[%s\n]" % ",".join("\n" + json.dumps(row) for row in rows))
+def show_json(objects, name):
+    """Shows an array with a line for each object, of which the rows that have this name are shown as they come."""
+    print("[", end="")
+    for place, one in enumerate(objects):
+        # No text has this in it, since its quotes are escaped.
+        head, begin, tail = json.dumps({**one, name: []}).partition('"%s": [' % name)
+        print("," * bool(place), head + begin, sep="\n", end="")
+        commas = itertools.chain([""], itertools.repeat(", "))
+        sys.stdout.writelines(comma + json.dumps(row) for comma, row in zip(commas, one[name]))
+        print(tail, end="")
+    print("\n]")
 
 
 @contextlib.contextmanager
 def opened(path):
     """A capture that is read more than once: what is no regular file is copied first. Trouble within is told of it."""
-    try:
+    with naming(path + " or its copy in TMPDIR"):
         file = sys.stdin.buffer if path == "-" else open(path, "rb")
         if path == "-" or not os.path.isfile(path):
             given, file = file, tempfile.TemporaryFile()
             shutil.copyfileobj(given, file)
             file.seek(0)
-    except OSError as error:
-        error.filename = error.filename or path + " or its copy in TMPDIR"
-        raise
     try:
         yield file
     except Trouble as trouble:

@@ -1,4 +1,4 @@
-"""What the tools share: names on a terminal, the program that they find, and long scripts and words."""
+"""What the tools share: names on a terminal, the program that they find, long scripts and words, many replies."""
 
 import io
 import itertools
@@ -9,7 +9,7 @@ import unittest.mock
 
 import vcd_files
 import vcd_runs
-from common import TOP, run, same, store, store_program
+from common import TOP, measured, run, same, store, store_program
 
 # A line, and what it is at 10 us.
 LINES = {
@@ -17,6 +17,13 @@ LINES = {
     "uart 1us 86.8us 8 none 1": "uart 1us 217/25 8 none 1", "uart a 9600baud": "uart a 125/12", "list 1s": "list 1s",
     "deglitch a 100baud": "deglitch a 100baud", "value a": "value a", "uart a 0baud 8": "uart a 0baud 8",
 }
+# A program that has many replies to a line, and tools with the words before that line.
+MANY = """#!/bin/sh
+for word; do [ "$before" != -o ] || cp c "$word"; before=$word; done
+list='timescale 1 ns\\nend 9999999\\nsignals 1\\nskipped 0\\n@0 1 wire r\\n'
+printf "$list"; seq -f '%.0f-9999999 uart byte 0x41' "$REPLIES"; printf "$list$list"
+"""
+MANY_SHOWN = ["table c", "table c --csv", "table c --json", "view c -o v.vcd", "apply c --json --line"]
 
 
 def on_a_terminal():
@@ -64,8 +71,21 @@ def long_ones():
     yield same("a long word, in few reads", found, ([200 * vcd_files.CHUNK, 1], True))
 
 
+def many_replies():
+    """What the tools hold does not grow with the replies."""
+    store("c", text="$var wire 1 ! r $end $enddefinitions $end #0 0! #9999999")
+    program = store_program(os.getcwd(), "many", text=MANY)
+    for tool, *words in map(str.split, MANY_SHOWN):
+        words, found = [os.path.join(TOP, "tools/vcdedit-" + tool), *words, "uart r 2 8 none 1"], []
+        for count in ("1000", "20000"):
+            with unittest.mock.patch.dict(os.environ, VCDEDIT_AMEND=program, REPLIES=count):
+                found.append(measured(words))
+        (_, few), (status, many) = found
+        yield "%s: %s" % (words, found), status == 0 and many - few < 2000000
+
+
 def check():
-    for part in on_a_terminal, not_built, long_ones:
+    for part in on_a_terminal, not_built, long_ones, many_replies:
         yield from part()
     for scale, lines in (("$timescale 1 s $end $timescale 1\n0 us $end", LINES), ("", {line: line for line in LINES})):
         with open(store("c", text="$comment $timescale 1 s $end %s $enddefinitions $end" % scale), "rb") as file:
