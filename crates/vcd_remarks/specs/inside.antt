@@ -14,3 +14,5 @@ pub mod SpiClock
 pub mod SpiFinder
 pub mod BusFindings
 pub mod JointRises
+pub mod DeglitchFinder
+pub mod EditFinder

@@ -2,6 +2,9 @@
 
 ghost use Rattle.std.specs.Prelude.{◌≡◌, ◌∷◌, [], Some, None};
 ghost use Rattle.std.specs.List.{filter_map};
+ghost use Rattle.vcd_core.specs.Contents.{Contents};
+ghost use Rattle.vcd_remarks.specs.EditFindings.{edit_findings};
+ghost use Rattle.vcd_remarks.specs.NamedSignals as spec;
 ghost use Rattle.vcd_remarks.specs.NamedSignals.{signals_of_edit, signals_of_command};
 
 use vcd_edit::Edit;
@@ -39,5 +42,19 @@ fn signals_of_edit(edit: &Edit) -> [Option<usize>; 4]
         | Edit::Deglitch { .. }
         | Edit::Force { .. }
         | Edit::Derive { .. } => waves_read(edit),
+    }
+}
+
+/// The position of the signal at whose changes something may be found by an edit, if there is one.
+pub fn searched_signal(edit: &Edit) -> Option<usize>
+    ensures signal { result ≡ spec.searched_signal edit.now }
+    ensures others { result ≡ None → (c : Contents) → edit_findings edit.now c ≡ [] }
+{
+    match *edit {
+        Edit::Invert { signal }
+        | Edit::Shift { signal, .. }
+        | Edit::Deglitch { signal, .. }
+        | Edit::Force { signal, .. } => Some(signal),
+        Edit::Rename { .. } | Edit::Remove { .. } | Edit::Cut { .. } | Edit::Derive { .. } => None,
     }
 }

@@ -8,12 +8,9 @@ ghost use Rattle.vcd_remarks.specs.NameRemarks.{name_remarks};
 ghost use Rattle.vcd_remarks.specs.Remarks.{remarks, remarks_text};
 
 pub mod appending;
-mod changes_found;
 mod decoders;
-mod deglitching;
 mod edits;
 mod names;
-mod runs;
 mod spi;
 
 pub use appending::append_more;

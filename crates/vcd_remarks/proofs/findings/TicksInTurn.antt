@@ -1,13 +1,8 @@
 -- Ticks that are found one after another.
-use Rattle.std.proofs.Common.{◌≡◌, ℕ, zero, suc, ◌+◌, ◌-◌, ◌^◌, ◌<◌, min, nat_lt, Bool, true, false, if◌then◌else◌}
+use Rattle.std.proofs.Common.{◌≡◌, ℕ, zero, suc, ◌+◌, ◌-◌, ◌^◌, ◌<◌, min, nat_lt, if◌then◌else◌}
 use Rattle.std.proofs.Common.{List, [], ◌∷◌, ◌++◌}
-use Rattle.std.proofs.Common.{cond, length, map, take, get_or, max, slice_set, ap, sym, ◌∙◌, arith, rules, tests}
-use Rattle.std.specs.List.{filter}
-use Rattle.std.proofs.lemmas.List.{length-append, append-nil, append_assoc, map-append, length-map, length-take}
-use Rattle.std.proofs.lemmas.List.Sums.{count_by-le-length, length-filter}
-use Rattle.std.proofs.lemmas.List.Elements.{filter-append}
-use Rattle.vcd_core.specs.declared.wave.Change.{Change}
-use Rattle.vcd_edit.proofs.shared.Lists.{take_here}
+use Rattle.std.proofs.Common.{length, map, max, slice_set, ap, sym, ◌∙◌, arith, rules, tests}
+use Rattle.std.proofs.lemmas.List.{length-append, append-nil, append_assoc}
 use Rattle.vcd_remarks.specs.declared.findings.found_ticks.FoundTicks.{FoundTicks}
 use Rattle.vcd_remarks.specs.declared.findings.found_ticks.TheConstants.{SHOWN_TICKS}
 use Rattle.vcd_remarks.specs.declared.findings.found_spans.Span.{Span}
@@ -63,39 +58,3 @@ spans_in_turn ss few =
     let most : max 0 (greatest (map (λ s. s.ticks) ss)) ≡ greatest (map (λ s. s.ticks) ss) = omega arith in
     spans_more [] 0 ss (omega (arith, few))
     ∙ (λ i. record { ticks = found_ticks (map (λ s. s.tick) ss); most = most i })
-
--- ---- changes that pass a test
-
--- one change more
-pub change_more : (test : Change → Bool) (cs : List Change) (i : ℕ) (c : Change) → length cs < 2 ^ 64 → i < length cs
-    → c ≡ get_or cs i c → (b : Bool) → test c ≡ b → (found : FoundTicks)
-    → found ≡ found_ticks (map (λ d. d.tick) (filter test (take i cs)))
-    → (if b then with_tick found c.tick else found) ≡ found_ticks (map (λ d. d.tick) (filter test (take (i + 1) cs)))
-change_more test cs i c fits within at b passes found is =
-    by_test b ∙ sym (ap (λ l. found_ticks (map (λ d. d.tick) l)) here)
-  where
-    so_far : List Change
-    so_far = filter test (take i cs)
-
-    few : length (map (λ d. d.tick) so_far) + 1 < 2 ^ 64
-    few = omega (
-      arith,
-      fits,
-      within,
-      length-map so_far (λ d. d.tick),
-      length-filter test (take i cs),
-      count_by-le-length test (take i cs),
-      length-take i cs,
-    )
-
-    here : filter test (take (i + 1) cs) ≡ so_far ++ cond b (c ∷ []) []
-    here =
-        ap (filter test) (take_here cs i c within at) ∙ filter-append test (take i cs) (c ∷ [])
-        ∙ ap (λ q. so_far ++ cond q (c ∷ []) []) passes
-
-    by_test : (q : Bool) → (if q then with_tick found c.tick else found)
-        ≡ found_ticks (map (λ d. d.tick) (so_far ++ cond q (c ∷ []) []))
-    by_test true =
-        ap (λ (f : FoundTicks). with_tick f c.tick) is ∙ found_with (map (λ d. d.tick) so_far) c.tick few
-        ∙ ap found_ticks (sym (map-append (λ d. d.tick) so_far (c ∷ [])))
-    by_test false = is ∙ ap (λ l. found_ticks (map (λ (d : Change). d.tick) l)) (sym (append-nil so_far))

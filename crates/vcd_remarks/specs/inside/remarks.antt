@@ -1,3 +1,2 @@
 -- Definitions that `remarks` and its proofs cite.
 pub mod Parts
-pub mod Deglitching

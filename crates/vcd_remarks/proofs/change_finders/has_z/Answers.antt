@@ -2,8 +2,8 @@ use Rattle.std.proofs.Common.{List, map, not, ap, ◌∙◌}
 use Rattle.vcd_core.specs.declared.bit.Bit.{Bit}
 use Rattle.vcd_core.specs.Value.{same_letters}
 use Rattle.vcd_edit.specs.Operators.{not_bit}
-use Rattle.vcd_remarks.proofs.remarks.InvertedTwice.{z_differs}
-use Rattle.vcd_remarks.proofs.remarks.changes_found.has_z.Goals as goal
+use Rattle.vcd_remarks.proofs.change_finders.InvertedTwice.{z_differs}
+use Rattle.vcd_remarks.proofs.change_finders.has_z.Goals as goal
 
 pub returns : goal.returns
 returns c =

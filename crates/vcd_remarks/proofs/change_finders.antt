@@ -1,0 +1,3 @@
+-- Lemmas of `change_finders`.
+pub mod InvertedTwice
+pub mod ChangesTaken

@@ -1,0 +1,2 @@
+-- Lemmas of `deglitch_finder`.
+pub mod RunsTaken
