@@ -14,6 +14,7 @@ use vcd_amend::{
 };
 use vcd_copy::{AmendableItem, Amender, CopyError, EndedItem, InPlace, copy};
 use vcd_core::{Bit, DeviceFault, FromRead, NoMemory, Sink, ToWrite, Value, Wave, copy_word};
+use vcd_stream::CompactWave;
 use vcd_text::{Output, VARIABLE_LIMIT, write_bytes};
 
 /// Lets all items stand, each `$var` with a copy of its words. Memory may be refused after the
@@ -132,8 +133,8 @@ fn two_changes(alloc: Global) -> Result<Amendment, NoMemory>
     new.push(5, Value::filled(1, Bit::Zero))?;
     let code = AmendedCode {
         code: copy_word(alloc, b"!")?,
-        old: Wave::new(alloc, 1),
-        new,
+        old: CompactWave::new(alloc, 1),
+        new: CompactWave::of_wave(alloc, &new)?,
     };
     let mut codes = Vec::new(alloc);
     codes.push(code)?;

@@ -2,7 +2,8 @@
 
 ghost use Rattle.std.specs.Prelude.{◌≡◌};
 
-use vcd_core::{ScopePath, Seq, Wave, Word};
+use vcd_core::{ScopePath, Seq, Word};
+use vcd_stream::CompactWave;
 
 /// What becomes of a kept variable.
 #[derive(Drop)]
@@ -30,9 +31,9 @@ pub struct AddedVariable {
 pub struct AmendedCode {
     pub code: Word,
     /// Its wave in the file; x throughout, if no variable of the file has the code.
-    pub old: Wave,
+    pub old: CompactWave,
     /// Its wave in the amended file.
-    pub new: Wave,
+    pub new: CompactWave,
     ghost same_width: { old.width ≡ new.width },
 }
 

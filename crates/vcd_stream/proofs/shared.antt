@@ -5,4 +5,5 @@ pub mod Giving
 pub mod GoingOn
 pub mod Pipelines
 pub mod ReplacedTicks
+pub mod SignalEdits
 pub mod TakenChanges

@@ -9,12 +9,16 @@ use Rattle.vcd_stream.specs.declared.pipeline.Pipeline.{Pipeline}
 use Rattle.vcd_stream.specs.declared.stage.Stage.{Stage}
 use Rattle.vcd_stream.specs.Stages.{given, given_by_all}
 
--- fed with changes, a pipeline gives those of the signal at a position of a capture
-pub record GivesSignal {V : Type 0} (letters : ℕ → V → List Bit) (pipeline : Pipeline V)
-    (fed : List Change) (c : Contents) (k : ℕ) : Type 0 where
+-- a pipeline has the width of the signal at a position of a capture, and the capture's end
+pub record FitsSignal {V : Type 0} (pipeline : Pipeline V) (c : Contents) (k : ℕ) : Type 0 where
   pub within : k < length c.signals
   pub width : (signal_at c k).width ≡ pipeline.width
   pub end : c.end ≡ pipeline.end
+
+-- and, fed with changes, gives those of that signal
+pub record GivesSignal {V : Type 0} (letters : ℕ → V → List Bit) (pipeline : Pipeline V)
+    (fed : List Change) (c : Contents) (k : ℕ) : Type 0 where
+  pub fits : FitsSignal pipeline c k
   pub gives : given_by_all (letters pipeline.width) pipeline.stages.items fed
       ≡ (signal_at c k).changes
 

@@ -1,9 +1,10 @@
 //! Values whose width is known elsewhere.
 
-use vcd_core::{LetterBlock, Value};
+use vcd_core::{Bit, LetterBlock, Value};
 use vcd_edit::{inverse_of, inverse_of_block};
 
-/// A value whose width is known elsewhere, so that one of at most 64 bits takes 16 bytes.
+/// A value whose width is known elsewhere, so that one of at most 64 bits takes 16 bytes, and one
+/// of one bit a single byte.
 pub trait Letters: Copy {
     ghost use Rattle.std.specs.Prelude.{◌≡◌, ◌≤◌, ℕ, List, length, map};
     ghost use Rattle.vcd_core.specs.declared.bit.Bit.{Bit};
@@ -31,6 +32,31 @@ pub trait Letters: Copy {
     fn inverse(&self) -> Self
         ensures { (width : ℕ) → width ≤ widest
             → letters width result ≡ map not_bit (letters width self.now) };
+}
+
+impl Letters for Bit {
+    ghost use Rattle.std.specs.Prelude.{◌∷◌, []};
+
+    ghost widest = { 1 };
+
+    ghost letters = { λ _ bit. bit ∷ [] };
+
+    fn of_value(value: &Value) -> Bit {
+        let _width = value.width();
+        value.bit(0)
+    }
+
+    fn has_letters_of(&self, other: &Bit, _width: u64) -> bool {
+        self == other
+    }
+
+    fn inverse(&self) -> Bit {
+        match self {
+            Bit::Zero => Bit::One,
+            Bit::One => Bit::Zero,
+            Bit::X | Bit::Z => Bit::X,
+        }
+    }
 }
 
 impl Letters for LetterBlock {

@@ -1,6 +1,6 @@
 //! Stages one into the next: the edits of one signal.
 
-ghost use Rattle.std.specs.Prelude.{◌≡◌, ◌<◌, ◌≤◌, ◌++◌, ◌∷◌, [], ℕ, List, IfOk, OnOk};
+ghost use Rattle.std.specs.Prelude.{◌≡◌, ◌<◌, ◌≤◌, ◌++◌, ◌∷◌, [], ℕ, List, length, IfOk, OnOk};
 ghost use Rattle.vcd_core.specs.declared.wave.Change.{Change};
 ghost use Rattle.vcd_core.specs.declared.value.TheConstants.{WIDTH_LIMIT};
 ghost use Rattle.vcd_core.specs.Contents.{Contents, signal_at};
@@ -33,6 +33,25 @@ pub struct Pipeline<V> {
 }
 
 impl<V: Letters + Drop> Pipeline<V> {
+    /// The pipeline without a stage: it gives the changes of a wave that it is fed with. No memory
+    /// is taken.
+    pub fn of_wave(alloc: Global, width: u64, end: u64) -> Pipeline<V>
+        ensures gives { (c : Contents) (k : ℕ) → k < length c.signals
+            → (signal_at c k).width ≡ width → c.end ≡ end
+            → GivesSignal V.letters result (signal_at c k).changes c k }
+        ensures width { result.width ≡ width }
+        ensures end { result.end ≡ end }
+        ensures stages { result.stages.items ≡ [] }
+    {
+        Pipeline {
+            width,
+            end,
+            stages: Vec::new(alloc),
+            batch: Vec::new(alloc),
+            next: Vec::new(alloc),
+        }
+    }
+
     /// The pipeline without an edit: fed with the changes of a code as a file has them, which may
     /// repeat a value or a tick, it gives those of the wave.
     pub fn of_file(alloc: Global, width: u64, end: u64) -> Result<Pipeline<V>, NoMemory>
@@ -44,15 +63,9 @@ impl<V: Letters + Drop> Pipeline<V> {
             → GivesSignal V.letters pipeline fed c k) }
         ensures size { IfOk result (λ pipeline. (pipeline.width ≡ width) × (pipeline.end ≡ end)) }
     {
-        let mut stages = Vec::new(alloc);
-        stages.push(file_stage(width))?;
-        Ok(Pipeline {
-            width,
-            end,
-            stages,
-            batch: Vec::new(alloc),
-            next: Vec::new(alloc),
-        })
+        let mut pipeline = Pipeline::of_wave(alloc, width, end);
+        pipeline.stages.push(file_stage(width))?;
+        Ok(pipeline)
     }
 
     /// Adds an edit. It then gives the signal after the edit, whatever it is fed with.

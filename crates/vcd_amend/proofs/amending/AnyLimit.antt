@@ -1,16 +1,14 @@
 -- The amended text does not hang on the greatest number of kept variables.
-use Rattle.std.proofs.Common.{◌≡◌, ◌∙◌, ◌++◌, ◌∷◌, [], ℕ, Bool, true, List, refl, sym, ap}
+use Rattle.std.proofs.Common.{◌≡◌, ◌∙◌, ◌++◌, ◌∷◌, [], ℕ, Bool, List, refl, ap}
 use Rattle.std.specs.List.{flat_map}
 use Rattle.vcd_text.specs.Items.{Item, entry, timescale, scope, upscope, variable, end_definitions, stamp, scalar}
 use Rattle.vcd_text.specs.Items.{vector, real_or_string, dump_word, other}
-use Rattle.vcd_text.specs.Grammar.{ParseState, initial_state, state_after_item}
+use Rattle.vcd_text.specs.Grammar.{ParseState, state_after_item}
 use Rattle.vcd_copy.specs.Pieces.{Piece}
 use Rattle.vcd_text.specs.Text.{item_line}
-use Rattle.vcd_copy.specs.Copied.{IsCopy}
 use Rattle.vcd_amend.specs.Amendment.{Amendment}
 use Rattle.vcd_amend.specs.AmendedItems.{item_fate, inserted_items, still_none_yet}
 use Rattle.vcd_amend.specs.AmendedText.{amended_text, bytes_in_place}
-use Rattle.vcd_amend.proofs.amended.CopiedText.{copy_is_amended_text}
 use Rattle.vcd_copy.proofs.shared.StatesOfPieces.{at_limit, item_at_limit}
 
 fate_at : (a : Amendment) (n : ℕ) (s : ParseState) (i : Item) → item_fate a (at_limit n s) i ≡ item_fate a s i

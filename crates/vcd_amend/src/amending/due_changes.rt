@@ -13,7 +13,7 @@ ghost use Rattle.vcd_amend.specs.inside.amending.DueChanges.{AreDueFrom, begins_
 use super::moments::needs_other_change;
 use crate::amendment::AmendedCode;
 use std::alloc::Global;
-use vcd_core::{Change, NoMemory};
+use vcd_core::NoMemory;
 
 /// A change that an amended file is to have: that of the amended code at `index`, at `tick`.
 #[derive(Clone, Copy, PartialEq, Eq, PartialOrd, Ord)]
@@ -44,7 +44,7 @@ pub fn due_changes(alloc: Global, codes: &[AmendedCode]) -> Result<Vec<DueChange
 fn due_count(codes: &[AmendedCode]) -> usize {
     let mut count = 0usize;
     for code in codes {
-        let more = code.new.changes().len().saturating_add(1);
+        let more = code.new.ticks().len().saturating_add(1);
         count = count.saturating_add(more);
     }
     count
@@ -63,7 +63,7 @@ fn add_due_changes(
     ensures sound { OnOk result (IsWave code.now.new.width code.now.new.changes) }
 {
     add_other_change(due, index, code)?;
-    add_new_changes(due, index, code.new.changes())?;
+    add_new_changes(due, index, code.new.ticks())?;
     Ok(())
 }
 
@@ -85,22 +85,15 @@ fn add_other_change(
     Ok(())
 }
 
-/// Adds the changes of the new wave.
-fn add_new_changes(
-    due: &mut Vec<DueChange>,
-    index: usize,
-    changes: &[Change],
-) -> Result<(), NoMemory>
+/// Adds the changes of the new wave, which are at these ticks.
+fn add_new_changes(due: &mut Vec<DueChange>, index: usize, ticks: &[u64]) -> Result<(), NoMemory>
     ensures added { OnOk result (map due_transition due.new.items ≡ map due_transition due.old.items
-        ++ map (λ x. transition_of x.tick index) changes.now) }
+        ++ map (λ tick. transition_of tick index) ticks.now) }
     ensures within { OnOk result ((count : ℕ) → index < count →
         All (λ d. d.index < count) due.old.items → All (λ d. d.index < count) due.new.items) }
 {
-    for change in changes {
-        due.push(DueChange {
-            tick: change.tick,
-            index,
-        })?;
+    for tick in ticks {
+        due.push(DueChange { tick: *tick, index })?;
     }
     Ok(())
 }

@@ -15,7 +15,7 @@ ghost use Rattle.vcd_amend.specs.inside.amending.DueChanges.{is_last};
 
 use super::code_progress::CodeProgress;
 use super::due_changes::{DueChange, due_before, due_through};
-use super::moments::{ChangeCounts, value_after};
+use super::moments::ChangeCounts;
 use crate::amendment::AmendedCode;
 use vcd_core::Sink;
 use vcd_text::{Output, write_byte, write_change, write_stamp};
@@ -191,6 +191,6 @@ pub fn write_due<W: Sink>(
     write_change(
         output,
         code.code.as_slice(),
-        &value_after(&code.new, near.new),
+        &code.new.value_after(near.new),
     );
 }

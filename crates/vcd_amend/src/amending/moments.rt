@@ -1,13 +1,12 @@
 //! An amended code at a tick: whether the file's changes of it stand there, and whether it is to
 //! have one.
 
-ghost use Rattle.std.specs.Prelude.{◌≡◌, ◌≤◌, ◌==◌, ◌&&◌, ◌||◌, not, nat_le, ℕ, length, count_by};
-ghost use Rattle.vcd_core.specs.Wave.{value_at};
+ghost use Rattle.std.specs.Prelude.{◌≡◌, ◌==◌, ◌&&◌, ◌||◌, not, nat_le, count_by};
 ghost use Rattle.vcd_amend.specs.Amendment.{changes_stand, needs_change, wave_has_change};
 ghost use Rattle.vcd_amend.specs.AmendmentContents.{code_contents};
 
 use crate::amendment::AmendedCode;
-use vcd_core::{Value, Wave, last_value};
+use vcd_stream::CompactWave;
 
 /// How many changes of the two waves of an amended code came up to some tick: a search for a later
 /// tick begins there.
@@ -41,7 +40,7 @@ pub fn moment_at(code: &AmendedCode, near: ChangeCounts, tick: u64) -> Moment
         old: code.old.count_through_near(near.old, tick),
         new: code.new.count_through_near(near.new, tick),
     };
-    let is_same = value_after(&code.old, counts.old) == value_after(&code.new, counts.new);
+    let is_same = code.old.value_after(counts.old) == code.new.value_after(counts.new);
     let is_old = has_change_at(&code.old, counts.old, tick);
     let is_new = has_change_at(&code.new, counts.new, tick);
     Moment {
@@ -66,22 +65,13 @@ fn is_needed(is_same: bool, is_new: bool, tick: u64) -> bool
     is_new || (tick == 0 && !is_same)
 }
 
-/// The value of a wave after so many of its changes.
-pub fn value_after(wave: &Wave, count: usize) -> Value
-    requires { count ≤ length wave.now.changes }
-    ensures { (t : ℕ) → count ≡ count_by (λ c. nat_le c.tick t) wave.now.changes →
-        result ≡ value_at wave.now.width wave.now.changes t }
-{
-    last_value(&wave.changes()[..count], wave.width())
-}
-
 /// Whether the last of so many changes of a wave is at `tick`.
-fn has_change_at(wave: &Wave, count: usize, tick: u64) -> bool
+fn has_change_at(wave: &CompactWave, count: usize, tick: u64) -> bool
     requires { count ≡ count_by (λ c. nat_le c.tick tick) wave.now.changes }
     ensures { result ≡ wave_has_change wave.now.changes tick }
 {
-    let changes = wave.changes();
-    count > 0 && changes[count - 1].tick == tick
+    let ticks = wave.ticks();
+    count > 0 && ticks[count - 1] == tick
 }
 
 /// Whether a change of an amended code is due at tick 0 that is not one of the new wave.

@@ -21,6 +21,7 @@ use crate::declarations::DeclaredVariable;
 use indexmap::IndexSet;
 use std::alloc::Global;
 use vcd_core::{NoMemory, Signal, Wave, copy_word};
+use vcd_stream::CompactWave;
 
 /// The codes that unchanged variables hold.
 pub fn held_codes(alloc: Global, kept: &[KeptSignal]) -> Result<CodeSet, NoMemory>
@@ -130,8 +131,8 @@ fn push_own(codes: &mut Vec<AmendedCode>, alloc: Global, wave: &ChangedWave) -> 
 {
     let code = AmendedCode {
         code: copy_word(alloc, wave.code)?,
-        old: wave.old.copy()?,
-        new: wave.new.copy()?,
+        old: CompactWave::of_wave(alloc, wave.old)?,
+        new: CompactWave::of_wave(alloc, wave.new)?,
     };
     codes.push(code)?;
     Ok(())
@@ -159,8 +160,8 @@ fn code_fresh(
     let (code, next) = next_fresh_code(alloc, known, position)?;
     let fresh = AmendedCode {
         code,
-        old: Wave::new(alloc, new.width()),
-        new: new.copy()?,
+        old: CompactWave::new(alloc, new.width()),
+        new: CompactWave::of_wave(alloc, new)?,
     };
     codes.push(fresh)?;
     Ok(next)

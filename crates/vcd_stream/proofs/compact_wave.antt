@@ -1,0 +1,2 @@
+-- Lemmas of `compact_wave`.
+pub mod PartsOfChanges

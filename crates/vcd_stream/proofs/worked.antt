@@ -1,0 +1,2 @@
+-- Worked cases.
+pub mod SignalEdits
