@@ -62,7 +62,8 @@ impl CompactWave {
         }
     }
 
-    /// The same wave, without room for more changes.
+    /// The same wave. Up to 64 bits its changes are copied, without room for more. Of a wider wave
+    /// it has [`Wave::copy`], which takes no memory if the list is shared.
     pub fn of_wave(alloc: Global, wave: &Wave) -> Result<CompactWave, NoMemory>
         ensures width { IfOk result (λ compact. compact.width ≡ wave.now.width) }
         ensures changes { IfOk result (λ compact. compact.changes ≡ wave.now.changes) }

@@ -1,6 +1,7 @@
 //! Stages one into the next: the edits of one signal.
 
 ghost use Rattle.std.specs.Prelude.{◌≡◌, ◌<◌, ◌≤◌, ◌++◌, ◌∷◌, [], ℕ, List, length, IfOk, OnOk};
+ghost use Rattle.std.specs.Prelude.{OnErr};
 ghost use Rattle.vcd_core.specs.declared.wave.Change.{Change};
 ghost use Rattle.vcd_core.specs.declared.value.TheConstants.{WIDTH_LIMIT};
 ghost use Rattle.vcd_core.specs.Contents.{Contents, signal_at};
@@ -79,6 +80,8 @@ impl<V: Letters + Drop> Pipeline<V> {
             → GivesSignal V.letters self.new fed (effect (edit_of k edit.now) c) k) }
         ensures width { self.new.width ≡ self.old.width }
         ensures end { OnOk result (self.new.end ≡ end_after edit.now self.old.end) }
+        ensures refused { OnErr result ((self.new.stages.items ≡ self.old.stages.items)
+            × (self.new.end ≡ self.old.end)) }
     {
         let stage = edit.stage(self.width, self.end);
         self.stages.push(stage)?;

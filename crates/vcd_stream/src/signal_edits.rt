@@ -1,6 +1,6 @@
 //! Edits of a capture, as one of its signals sees them.
 
-ghost use Rattle.std.specs.Prelude.{◌≡◌, ◌≤◌, List, None, IsOk, IfOk, IfSome};
+ghost use Rattle.std.specs.Prelude.{◌≡◌, ◌≤◌, List, None, IsOk, IfOk, IfSome, OnErr};
 ghost use Rattle.vcd_core.specs.declared.wave.Change.{Change};
 ghost use Rattle.vcd_core.specs.declared.value.TheConstants.{WIDTH_LIMIT};
 ghost use Rattle.vcd_core.specs.Contents.{Contents};
@@ -40,6 +40,8 @@ impl<V: Letters + Drop> Pipeline<V> {
         ensures width { self.new.width ≡ self.old.width }
         ensures never_refused { spec.wave_edit_of edit.now position ≡ None → IsOk result }
         ensures stays { spec.wave_edit_of edit.now position ≡ None → self.new ≡ self.old }
+        ensures refused { OnErr result ((self.new.stages.items ≡ self.old.stages.items)
+            × (self.new.end ≡ self.old.end)) }
     {
         if let Some(wave_edit) = wave_edit_of(edit, position) {
             self.push(&wave_edit)?;
